@@ -1,0 +1,86 @@
+-- The full answer of each public function, with its refusals by number and place, in the order of their checks.
+use Prim.Native.Nat.{ℕ}
+use mathlib.Core.Bool.{Bool, not}
+use mathlib.Core.List.{List}
+use lib.ListN.{replicate}
+use lib.Dec.{leb, eqb}
+use Rattle.laws.specs.Test.{both, unless}
+use Rattle.graph.specs.declared.Graph.{Graph}
+use Rattle.graph.specs.declared.Reading.{Reading}
+use Rattle.graph.specs.declared.Change.{Change}
+use Rattle.graph.specs.declared.Totals.{Totals}
+use Rattle.graph.specs.declared.Degree.{Degree}
+use Rattle.graph.specs.declared.Arrangement.{Arrangement}
+use Rattle.graph.specs.Graph.{entry, withEntry}
+use Rattle.graph.specs.WellFormed.{wellFormed, orderFits}
+use Rattle.graph.specs.Pairs.{pairsWith, edgesAt}
+use Rattle.graph.specs.Arrangement.{isReordering, isPermitted, relabelled, composed, inverse}
+
+-- 7: vertex 0, a vertex above n, or i = j
+unfoldable pub isVertex : ℕ → ℕ → Bool
+isVertex n v = both (leb 1 v) (leb v n)
+
+unfoldable pub isPair : ℕ → ℕ → ℕ → Bool
+isPair n i j = both (isVertex n i) (both (isVertex n j) (not (eqb i j)))
+
+-- ---- entries
+
+abbrev reading : ℕ → ℕ → Reading
+reading number value = record { refusal = number; place = 0; value = value }
+
+unfoldable pub readAnswer : Graph → ℕ → ℕ → Reading
+readAnswer g i j =
+    unless (wellFormed g) (reading 8 0)
+    (unless (isPair (g .order) i j) (reading 7 0)
+    (reading 0 (entry g i j)))
+
+abbrev change : ℕ → Graph → Change
+change number g = record { refusal = number; place = 0; graph = g }
+
+unfoldable pub setAnswer : Graph → ℕ → ℕ → ℕ → Change
+setAnswer g i j value =
+    unless (wellFormed g) (change 8 g)
+    (unless (isPair (g .order) i j) (change 7 g)
+    (unless (leb value 2) (change 9 g)
+    (change 0 (withEntry g i j value))))
+
+-- ---- counts
+
+abbrev totals : ℕ → ℕ → ℕ → ℕ → Totals
+totals number e z u = record { refusal = number; place = 0; edges = e; «non_edges» = z; unknowns = u }
+
+unfoldable pub countAnswer : Graph → Totals
+countAnswer g = unless (wellFormed g) (totals 8 0 0 0) (totals 0 (pairsWith g 1) (pairsWith g 0) (pairsWith g 2))
+
+abbrev degree : ℕ → ℕ → Degree
+degree number e = record { refusal = number; place = 0; edges = e }
+
+unfoldable pub degreeAnswer : Graph → ℕ → Degree
+degreeAnswer g v = unless (wellFormed g) (degree 8 0) (unless (isVertex (g .order) v) (degree 7 0) (degree 0 (edgesAt g v)))
+
+-- ---- arrangements
+
+-- the graph of order 0, all zeros
+abbrev pub noGraph : Graph
+noGraph = record { order = 0; edges = replicate 32 0; unknowns = replicate 32 0; starts = 0 }
+
+unfoldable pub relabelAnswer : Graph → List ℕ → Change
+relabelAnswer g p =
+    unless (wellFormed g) (change 8 noGraph)
+    (unless (isPermitted (g .order) (g .starts) p) (change 11 noGraph)
+    (change 0 (relabelled g p)))
+
+abbrev arrangement : ℕ → ℕ → List ℕ → Arrangement
+arrangement number place vs = record { refusal = number; place = place; vertices = vs }
+
+unfoldable pub composeAnswer : ℕ → List ℕ → List ℕ → Arrangement
+composeAnswer n p q =
+    unless (orderFits n) (arrangement 2 n (replicate 32 0))
+    (unless (both (isReordering n p) (isReordering n q)) (arrangement 11 0 (replicate 32 0))
+    (arrangement 0 0 (composed n p q)))
+
+unfoldable pub invertAnswer : ℕ → List ℕ → Arrangement
+invertAnswer n p =
+    unless (orderFits n) (arrangement 2 n (replicate 32 0))
+    (unless (isReordering n p) (arrangement 11 0 (replicate 32 0))
+    (arrangement 0 0 (inverse n p)))

@@ -1,0 +1,68 @@
+-- Arrangements: 32 numbers, of which the one at index i - 1 is the vertex p(i) put at place i, with zeros after place n.
+use Prim.Native.Nat.{ℕ, zero, suc, _-_, _≤_, _<_}
+use mathlib.Core.Path.{_≡_}
+use mathlib.Core.Logic.{_≢_}
+use mathlib.Core.Bool.{Bool, not}
+use mathlib.Core.List.{List}
+use lib.ListN.{length, getD}
+use lib.Dec.{leb, eqb}
+use Rattle.laws.specs.Test.{both, pick}
+use Rattle.laws.specs.UpTo.{allUpTo}
+use Rattle.graph.specs.declared.Graph.{Graph}
+use Rattle.graph.specs.Graph.{entry, drawn, placed, blockOf}
+
+-- p(i)
+abbrev pub at : List ℕ → ℕ → ℕ
+at p i = getD p (i - 1) 0
+
+-- p uses each of 1..n once, and is zero after place n
+pub record Reordering (n : ℕ) (p : List ℕ) : Type 0 where
+  pub long : length p ≡ 32
+  pub low : (i : ℕ) → 1 ≤ i → i ≤ n → 1 ≤ at p i
+  pub high : (i : ℕ) → 1 ≤ i → i ≤ n → at p i ≤ n
+  pub once : (i j : ℕ) → 1 ≤ j → j < i → i ≤ n → at p i ≢ at p j
+  pub zeros : (i : ℕ) → n < i → at p i ≡ 0
+
+-- and p(i) lies in the block of i
+pub record Permitted (n starts : ℕ) (p : List ℕ) : Type 0 where
+  pub reordering : Reordering n p
+  pub in-block : (i : ℕ) → 1 ≤ i → i ≤ n → blockOf starts (at p i) ≡ blockOf starts i
+
+-- ---- the tests
+
+-- p(i) is none of p(1), .., p(i - 1)
+unfoldable pub isNew : List ℕ → ℕ → Bool
+isNew p i = allUpTo (λ j. not (eqb (at p j) (at p i))) (i - 1)
+
+-- place i holds a vertex that stands at no earlier place; after place n it holds zero
+unfoldable pub placeFits : ℕ → List ℕ → ℕ → Bool
+placeFits n p i = pick (leb i n) (both (leb 1 (at p i)) (both (leb (at p i) n) (isNew p i))) (eqb (at p i) 0)
+
+unfoldable pub isReordering : ℕ → List ℕ → Bool
+isReordering n p = both (eqb (length p) 32) (allUpTo (placeFits n p) 32)
+
+-- p(i) lies in the block of i
+unfoldable pub staysInBlock : ℕ → List ℕ → ℕ → Bool
+staysInBlock starts p i = eqb (blockOf starts (at p i)) (blockOf starts i)
+
+unfoldable pub isPermitted : ℕ → ℕ → List ℕ → Bool
+isPermitted n starts p = both (isReordering n p) (allUpTo (staysInBlock starts p) n)
+
+-- ---- relabelling, composing, inverting
+
+-- g relabelled by p: the entry at (i, j) is g's at (p(i), p(j)), the blocks are the same
+unfoldable pub relabelled : Graph → List ℕ → Graph
+relabelled g p = drawn (g .order) (g .starts) (λ i j. entry g (at p i) (at p j))
+
+-- p composed with q puts p(q(i)) at i
+unfoldable pub composed : ℕ → List ℕ → List ℕ → List ℕ
+composed n p q = placed (λ i. at p (at q i)) n
+
+-- the last of the places 1..n at which p has v, or 0
+unfoldable pub placeOf : List ℕ → ℕ → ℕ → ℕ
+placeOf p zero v = 0
+placeOf p (suc n) v = pick (eqb (at p (suc n)) v) (suc n) (placeOf p n v)
+
+-- the inverse puts at v the place at which p has v
+unfoldable pub inverse : ℕ → List ℕ → List ℕ
+inverse n p = placed (placeOf p n) n

@@ -1,0 +1,5 @@
+pub mod Graph
+pub mod WellFormed
+pub mod Arrangement
+pub mod Pairs
+pub mod Answers

@@ -1,0 +1,3 @@
+pub mod Test
+pub mod Bit
+pub mod UpTo
