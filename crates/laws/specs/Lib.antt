@@ -1,3 +1,5 @@
 pub mod Test
 pub mod Bit
 pub mod UpTo
+pub mod Num
+pub mod First
