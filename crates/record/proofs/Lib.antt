@@ -1,1 +1,3 @@
 pub mod Cases
+pub mod BitLaws
+pub mod FieldLaws
