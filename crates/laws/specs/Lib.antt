@@ -1,3 +1,6 @@
 pub mod Test
 pub mod Bit
 pub mod UpTo
+pub mod TestLaws
+pub mod BitLaws
+pub mod UpToLaws
