@@ -2,3 +2,6 @@ pub mod Test
 pub mod Bit
 pub mod UpTo
 pub mod Loops
+pub mod TestLaws
+pub mod BitLaws
+pub mod UpToLaws
