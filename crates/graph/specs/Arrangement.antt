@@ -6,10 +6,11 @@ use mathlib.Core.Bool.{Bool, not}
 use mathlib.Core.List.{List}
 use lib.ListN.{length, getD}
 use lib.Dec.{leb, eqb}
+use Rattle.laws.specs.Bit.{bit}
 use Rattle.laws.specs.Test.{both, pick}
-use Rattle.laws.specs.UpTo.{allUpTo}
+use Rattle.laws.specs.UpTo.{allUpTo, wordUpTo}
 use Rattle.graph.specs.declared.Graph.{Graph}
-use Rattle.graph.specs.Graph.{entry, drawn, placed, blockOf}
+use Rattle.graph.specs.Graph.{row, entry, drawn, placed, blockOf}
 
 -- p(i)
 abbrev pub at : List ℕ → ℕ → ℕ
@@ -31,8 +32,11 @@ pub record Permitted (n starts : ℕ) (p : List ℕ) : Type 0 where
 -- ---- the tests
 
 -- p(i) is none of p(1), .., p(i - 1)
+unfoldable pub differs : List ℕ → ℕ → ℕ → Bool
+differs p i j = not (eqb (at p j) (at p i))
+
 unfoldable pub isNew : List ℕ → ℕ → Bool
-isNew p i = allUpTo (λ j. not (eqb (at p j) (at p i))) (i - 1)
+isNew p i = allUpTo (differs p i) (i - 1)
 
 -- place i holds a vertex that stands at no earlier place; after place n it holds zero
 unfoldable pub placeFits : ℕ → List ℕ → ℕ → Bool
@@ -50,13 +54,23 @@ isPermitted n starts p = both (isReordering n p) (allUpTo (staysInBlock starts p
 
 -- ---- relabelling, composing, inverting
 
+-- row i of the rows moved by p: the bit of j is that of p(j) in row p(i)
+unfoldable pub movedBit : List ℕ → List ℕ → ℕ → ℕ → ℕ
+movedBit rows p i j = bit (row rows (at p i)) (at p j - 1)
+
+unfoldable pub movedRow : List ℕ → List ℕ → ℕ → ℕ → ℕ
+movedRow rows p n i = wordUpTo (movedBit rows p i) n
+
 -- g relabelled by p: the entry at (i, j) is g's at (p(i), p(j)), the blocks are the same
 unfoldable pub relabelled : Graph → List ℕ → Graph
 relabelled g p = drawn (g .order) (g .starts) (λ i j. entry g (at p i) (at p j))
 
 -- p composed with q puts p(q(i)) at i
+unfoldable pub through : List ℕ → List ℕ → ℕ → ℕ
+through p q i = at p (at q i)
+
 unfoldable pub composed : ℕ → List ℕ → List ℕ → List ℕ
-composed n p q = placed (λ i. at p (at q i)) n
+composed n p q = placed (through p q) n
 
 -- the last of the places 1..n at which p has v, or 0
 unfoldable pub placeOf : List ℕ → ℕ → ℕ → ℕ

@@ -1,3 +1,5 @@
+pub mod inner;
+
 pub struct Graph {
     pub order: u32,
     pub edges: [u32; 32],

@@ -3,3 +3,8 @@ pub mod Bit
 pub mod UpTo
 pub mod Num
 pub mod First
+pub mod Loops
+pub mod TestLaws
+pub mod BitLaws
+pub mod UpToLaws
+pub mod ListLaws

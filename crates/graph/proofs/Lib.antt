@@ -1,0 +1,2 @@
+pub mod CodeTests
+pub mod PairLaws

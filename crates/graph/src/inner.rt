@@ -1,0 +1,216 @@
+// For the crates of this project: functions that ask something of their caller, which has checked it.
+ghost use mathlib.Core.Path.{_≡_};
+ghost use mathlib.Core.Bool.{true};
+ghost use Prim.Native.Nat.{_+_, _-_, _≤_, _<_, _^_};
+ghost use lib.Dec.{leb};
+ghost use lib.ListN.{length};
+ghost use Rattle.laws.specs.UpTo.{allUpTo};
+ghost use Rattle.laws.specs.Test.{pick};
+ghost use Rattle.graph.specs.Graph.{entryIn, blockOf, placed};
+ghost use Rattle.graph.specs.WellFormed.{pairFits, rowFits, startsFit};
+ghost use Rattle.graph.specs.Arrangement.{at, differs, isNew, placeFits, isReordering, staysInBlock, isPermitted, placeOf, movedRow};
+
+// A word as a wider one.
+fn wide(x: u32) -> u64
+    ensures { λ r. ⌜ r ≡ x ⌝ }
+{
+    x as u64
+}
+
+// A byte as a wider number.
+fn small(x: u8) -> u32
+    ensures { λ r. ⌜ (r ≡ x) × (r < 256) ⌝ }
+{
+    x as u32
+}
+
+// 2 to the k.
+fn power(k: u32) -> u64
+    requires { ⌜ k ≤ 32 ⌝ }
+    ensures { λ r. ⌜ r ≡ 2 ^ k ⌝ }
+{
+    1u64 << k
+}
+
+// ---- entries
+
+// The entry of the rows at (i, j).
+pub fn entry_in<'a>(edges: &'a [u32; 32], unknowns: &'a [u32; 32], i: u32, j: u32) -> u32
+    requires { ⌜ (1 ≤ i) × (i ≤ 32) × (1 ≤ j) × (j ≤ 32) ⌝ }
+    ensures { λ r. ⌜ (r ≡ entryIn (now (edges .entry)) (now (unknowns .entry)) i j) × (r ≤ 3) ⌝ }
+{
+    let at = (i - 1) as usize;
+    let e = edges[at];
+    let u = unknowns[at];
+    (e >> (j - 1)) % 2 + 2 * ((u >> (j - 1)) % 2)
+}
+
+// ---- well-formedness
+
+// Do the entries at (i, j) and (j, i) agree, and is neither both known and unknown?
+fn pair_fits<'a>(edges: &'a [u32; 32], unknowns: &'a [u32; 32], i: u32, j: u32) -> bool
+    requires { ⌜ (1 ≤ i) × (i ≤ 32) × (1 ≤ j) × (j ≤ 32) ⌝ }
+    ensures { λ r. ⌜ r ≡ pairFits (now (edges .entry)) (now (unknowns .entry)) i j ⌝ }
+{
+    let here = entry_in(edges, unknowns, i, j);
+    let there = entry_in(edges, unknowns, j, i);
+    if here == there {
+        return here <= 2;
+    }
+    false
+}
+
+// Does row i fit the columns before it?
+fn columns_fit<'a>(edges: &'a [u32; 32], unknowns: &'a [u32; 32], i: u32) -> bool
+    requires { ⌜ (1 ≤ i) × (i ≤ 32) ⌝ }
+    ensures { λ r. ⌜ r ≡ allUpTo (pairFits (now (edges .entry)) (now (unknowns .entry)) i) (i - 1) ⌝ }
+{
+    let mut j = 0;
+    while j < i - 1 {
+        if pair_fits(edges, unknowns, i, j + 1) {
+            j += 1;
+        } else {
+            return false;
+        }
+    }
+    true
+}
+
+// What row i must be below: 2 to the order, and 1 past the order.
+fn row_limit(order: u32, i: u32) -> u64
+    requires { ⌜ order ≤ 32 ⌝ }
+    ensures { λ r. ⌜ r ≡ 2 ^ pick (leb i order) order 0 ⌝ }
+{
+    if i <= order {
+        return power(order);
+    }
+    1
+}
+
+// Has row i nothing past the order and nothing on the diagonal, and does it fit the columns before it?
+fn row_fits<'a>(order: u32, edges: &'a [u32; 32], unknowns: &'a [u32; 32], i: u32) -> bool
+    requires { ⌜ (order ≤ 32) × (1 ≤ i) × (i ≤ 32) ⌝ }
+    ensures { λ r. ⌜ r ≡ rowFits order (now (edges .entry)) (now (unknowns .entry)) i ⌝ }
+{
+    let at = (i - 1) as usize;
+    let limit = row_limit(order, i);
+    if limit <= wide(edges[at]) {
+        return false;
+    }
+    if limit <= wide(unknowns[at]) {
+        return false;
+    }
+    if entry_in(edges, unknowns, i, i) == 0 {
+        return columns_fit(edges, unknowns, i);
+    }
+    false
+}
+
+// Does every row fit?
+pub fn rows_fit<'a>(order: u32, edges: &'a [u32; 32], unknowns: &'a [u32; 32]) -> bool
+    requires { ⌜ order ≤ 32 ⌝ }
+    ensures { λ r. ⌜ r ≡ allUpTo (rowFits order (now (edges .entry)) (now (unknowns .entry))) 32 ⌝ }
+{
+    let mut i = 0;
+    while i < 32 {
+        if row_fits(order, edges, unknowns, i + 1) {
+            i += 1;
+        } else {
+            return false;
+        }
+    }
+    true
+}
+
+// Does vertex 1 start a block, and lies no start past the order?
+pub fn starts_fit(order: u32, starts: u32) -> bool
+    requires { ⌜ order ≤ 32 ⌝ }
+    ensures { λ r. ⌜ r ≡ startsFit order starts ⌝ }
+{
+    if starts % 2 == 1 {
+        return wide(starts) < power(order);
+    }
+    false
+}
+
+// ---- blocks and arrangements
+
+// The number of v's block.
+pub fn block_of(starts: u32, v: u32) -> u32
+    requires { ⌜ v ≤ 32 ⌝ }
+    ensures { λ r. ⌜ (r ≡ blockOf starts v) × (r ≤ 32) ⌝ }
+{
+    let mut blocks = 0;
+    let mut i = 0;
+    while i < v {
+        blocks += (starts >> i) % 2;
+        i += 1;
+    }
+    blocks
+}
+
+// The vertex at place i.
+pub fn vertex_at(p: &[u8; 32], i: u32) -> u32
+    requires { ⌜ (1 ≤ i) × (i ≤ 32) ⌝ }
+    ensures { λ r. ⌜ (r ≡ at (now (p .entry)) i) × (r < 256) ⌝ }
+{
+    let k = (i - 1) as usize;
+    small(p[k])
+}
+
+// Does p have at place i another vertex than at place j?
+fn differ(p: &[u8; 32], i: u32, j: u32) -> bool
+    requires { ⌜ (1 ≤ i) × (i ≤ 32) × (1 ≤ j) × (j ≤ 32) ⌝ }
+    ensures { λ r. ⌜ r ≡ differs (now (p .entry)) i j ⌝ }
+{
+    vertex_at(p, j) != vertex_at(p, i)
+}
+
+// Is the vertex at place i at no earlier place?
+fn is_new(p: &[u8; 32], i: u32) -> bool
+    requires { ⌜ (1 ≤ i) × (i ≤ 32) ⌝ }
+    ensures { λ r. ⌜ r ≡ isNew (now (p .entry)) i ⌝ }
+{
+    let mut j = 0;
+    while j < i - 1 {
+        if differ(p, i, j + 1) {
+            j += 1;
+        } else {
+            return false;
+        }
+    }
+    true
+}
+
+// Does place i hold a vertex that stands at no earlier place, or, after place n, zero?
+fn place_fits(n: u32, p: &[u8; 32], i: u32) -> bool
+    requires { ⌜ (1 ≤ i) × (i ≤ 32) ⌝ }
+    ensures { λ r. ⌜ r ≡ placeFits n (now (p .entry)) i ⌝ }
+{
+    let v = vertex_at(p, i);
+    if i <= n {
+        if v < 1 {
+            return false;
+        }
+        if n < v {
+            return false;
+        }
+        return is_new(p, i);
+    }
+    v == 0
+}
+
+// Does p use each of 1..n once, with zeros after place n?
+pub fn is_reordering(n: u32, p: [u8; 32]) -> bool
+    ensures { λ r. ⌜ r ≡ isReordering n p ⌝ }
+{
+    let mut i = 0;
+    while i < 32 {
+        if place_fits(n, &p, i + 1) {
+            i += 1;
+        } else {
+            return false;
+        }
+    }
+    true
+}
