@@ -1,20 +1,25 @@
 -- What the code's tests come to, one law for each answer that it gives.
 use Prim.Native.Nat.{ℕ, _+_, _-_, _*_, _/_, _%_, _≤_, _<_, _^_}
 use native.Mathlib.Omega.{arith}
-use mathlib.Core.Path.{_≡_, sym, ap, ap₂, _∙_}
+use native.Mathlib.Numerals.{add-one}
+use mathlib.Core.Path.{_≡_, refl, sym, ap, ap₂, _∙_}
 use mathlib.Core.Bool.{Bool, true, false, not}
 use mathlib.Core.List.{List}
 use native.Mathlib.Nat.{one-mul, div-one}
 use lib.Dec.{leb, ltb, eqb, lit<}
-use lib.ListN.{length}
+use lib.ListN.{length, set}
 use lib.Pow.{shl-exact}
-use borrow.Author.Tests.{eq-eqb, ne-eqb, le-leb, lt-leb, lt-ltb, le-ltb}
+use borrow.Author.Tests.{eq-eqb, ne-eqb, le-leb, lt-leb, lt-ltb, le-ltb, leb-true}
 use Rattle.laws.specs.Test.{both, pick}
 use Rattle.laws.specs.UpTo.{allUpTo, sumUpTo}
+use Rattle.laws.specs.Bit.{withBit}
+use Rattle.laws.specs.BitLaws.{bit-in, withBit-below}
+use Rattle.laws.specs.TestLaws.{both-first, both-second}
+use Rattle.laws.specs.UpToLaws.{all-at}
 use Rattle.laws.specs.Loops.{all-done, all-stops, sum-turns}
-use Rattle.graph.specs.Graph.{row, entryIn, startAt}
+use Rattle.graph.specs.Graph.{row, entryIn, withMark, startAt, blockOf}
 use Rattle.graph.specs.WellFormed.{pairFits, rowFits, startsFit}
-use Rattle.graph.specs.Arrangement.{at, differs, isNew, placeFits, isReordering}
+use Rattle.graph.specs.Arrangement.{at, differs, isNew, placeFits, isReordering, staysInBlock, isPermitted, placeOf}
 
 -- equal entries are left with the test that neither is both known and unknown
 pub pair-same : (e u : List ℕ) (i j h t : ℕ) → h ≡ entryIn e u i j → t ≡ entryIn e u j i → h ≡ t → leb h 2 ≡ pairFits e u i j
@@ -121,3 +126,77 @@ reordering-done n p m long h a b = rw (eq-eqb (length p) 32 long) (all-done (pla
 pub reordering-stops : (n : ℕ) (p : List ℕ) (m : ℕ) (r : Bool) → length p ≡ 32 → r ≡ placeFits n p (m + 1) → r ≡ false → m < 32 → false ≡ isReordering n p
 unfolding isReordering both
 reordering-stops n p m r long e h l = rw (eq-eqb (length p) 32 long) (all-stops (placeFits n p) m 32 r e h l)
+
+-- ---- bits
+
+pub shifted : (b k : ℕ) → b ≤ 1 → k < 32 → b * 2 ^ k % 2 ^ 32 ≡ b * 2 ^ k
+shifted b k l h = shl-exact 1 k 32 (omega arith) (omega arith)
+
+pub bit-out : (w k r : ℕ) → r ≡ w / 2 ^ k % 2 * 2 ^ k → r ≤ w
+bit-out w k r e = rw e (bit-in w k)
+
+pub with-bit-is : (w k b r s : ℕ) → r ≡ w / 2 ^ k % 2 * 2 ^ k → s ≡ b * 2 ^ k → w - r + s ≡ withBit w k b
+unfolding withBit
+with-bit-is w k b r s p q = ap₂ (λ (x y : ℕ). w - x + y) p q
+
+pub with-bit-fits : (w k b r s : ℕ) → r ≡ w / 2 ^ k % 2 * 2 ^ k → s ≡ b * 2 ^ k → w < 2 ^ 32 → k < 32 → b ≤ 1 → w - r + s < 2 ^ 32
+with-bit-fits w k b r s p q l h c = rw (with-bit-is w k b r s p q) (withBit-below w k b 32 l h c)
+
+pub mark-is : (rows : List ℕ) (i j b w x : ℕ) → w ≡ withBit (row rows i) (j - 1) b → x ≡ withBit (row rows j) (i - 1) b
+    → set (set rows (i - 1) w) (j - 1) x ≡ withMark rows i j b
+unfolding withMark
+mark-is rows i j b w x p q = ap₂ (λ (m n : ℕ). set (set rows (i - 1) m) (j - 1) n) p q
+
+-- ---- permitted arrangements, and places
+
+pub stays-is : (starts : ℕ) (p : List ℕ) (i v there here : ℕ) → there ≡ blockOf starts v → v ≡ at p i → here ≡ blockOf starts i
+    → eqb there here ≡ staysInBlock starts p i
+unfolding staysInBlock
+stays-is starts p i v there here a e b = ap₂ eqb (a ∙ ap (blockOf starts) e) b
+
+place-holds : (n : ℕ) (p : List ℕ) (i : ℕ) → isReordering n p ≡ true → 1 ≤ i → i ≤ n → n ≤ 32 → both (leb 1 (at p i)) (both (leb (at p i) n) (isNew p i)) ≡ true
+unfolding isReordering placeFits pick
+place-holds n p i h a b l =
+    let f : placeFits n p i ≡ true = all-at (placeFits n p) 32 (both-second (eqb (length p) 32) (allUpTo (placeFits n p) 32) h) i a (omega arith) in
+    rw (le-leb i n b) at f
+
+pub vertex-in : (n : ℕ) (p : List ℕ) (i : ℕ) → isReordering n p ≡ true → i < n → n ≤ 32 → at p (i + 1) ≤ 32
+vertex-in n p i h a l =
+    let f : both (leb 1 (at p (i + 1))) (both (leb (at p (i + 1)) n) (isNew p (i + 1))) ≡ true = place-holds n p (i + 1) h (omega arith) (omega arith) l in
+    let s : leb (at p (i + 1)) n ≡ true = both-first (leb (at p (i + 1)) n) (isNew p (i + 1)) (both-second (leb 1 (at p (i + 1))) (both (leb (at p (i + 1)) n) (isNew p (i + 1))) f) in
+    omega (arith, leb-true (at p (i + 1)) n s)
+
+pub known-reordering : (n : ℕ) (p : List ℕ) (r : Bool) → r ≡ isReordering n p → r ≡ true → isReordering n p ≡ true
+known-reordering n p r e h = sym e ∙ h
+
+pub permitted-is : (n starts : ℕ) (p : List ℕ) (r b : Bool) → r ≡ isReordering n p → r ≡ true → b ≡ allUpTo (staysInBlock starts p) n → b ≡ isPermitted n starts p
+unfolding isPermitted both
+permitted-is n starts p r b e h f = rw (sym e ∙ h) f
+
+pub permitted-not : (n starts : ℕ) (p : List ℕ) (r : Bool) → r ≡ isReordering n p → r ≡ false → false ≡ isPermitted n starts p
+unfolding isPermitted both
+permitted-not n starts p r e h = rw (sym e ∙ h)
+
+pub place-starts : (p : List ℕ) (v : ℕ) → 0 ≡ placeOf p 0 v
+unfolding placeOf
+place-starts p v = refl
+
+pub place-here : (p : List ℕ) (v i s x found : ℕ) → s ≡ i → x ≡ at p (s + 1) → x ≡ v → i + 1 ≡ pick (eqb (at p (i + 1)) v) (i + 1) found
+unfolding pick
+place-here p v i s x found e a h = rw (eq-eqb (at p (i + 1)) v (ap (λ (k : ℕ). at p (k + 1)) (sym e) ∙ sym a ∙ h))
+
+pub place-before : (p : List ℕ) (v i s x found : ℕ) → s ≡ i → x ≡ at p (s + 1) → (x ≡ v → ⊥) → found ≡ pick (eqb (at p (i + 1)) v) (i + 1) found
+unfolding pick
+place-before p v i s x found e a h = rw (ne-eqb (at p (i + 1)) v (λ t. h (a ∙ ap (λ (k : ℕ). at p (k + 1)) e ∙ t)))
+
+pub place-turns : (p : List ℕ) (v i found r : ℕ) → found ≡ placeOf p i v → r ≡ pick (eqb (at p (i + 1)) v) (i + 1) found → r ≡ placeOf p (i + 1) v
+unfolding placeOf
+place-turns p v i found r h q = q ∙ rw (h, add-one i)
+
+pub place-done : (p : List ℕ) (v m n s found : ℕ) → found ≡ placeOf p m v → m ≤ n → s ≡ m → n ≤ s → found ≡ placeOf p n v
+place-done p v m n s found h a e b = let q : m ≡ n = omega arith in h ∙ ap (λ (k : ℕ). placeOf p k v) q
+
+pub pick-small : (t : Bool) (x y r : ℕ) → r ≡ pick t (x + 1) y → y ≤ x → r ≤ x + 1
+unfolding pick
+pick-small true x y r e b = omega arith
+pick-small false x y r e b = omega arith

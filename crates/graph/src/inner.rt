@@ -1,12 +1,14 @@
 // For the crates of this project: functions that ask something of their caller, which has checked it.
 ghost use mathlib.Core.Path.{_≡_};
 ghost use mathlib.Core.Bool.{true};
-ghost use Prim.Native.Nat.{_+_, _-_, _≤_, _<_, _^_};
-ghost use lib.Dec.{leb};
+ghost use mathlib.Core.Logic.{_≢_};
+ghost use Prim.Native.Nat.{_+_, _-_, _*_, _≤_, _<_, _^_};
+ghost use lib.Dec.{leb, eqb};
 ghost use lib.ListN.{length};
 ghost use Rattle.laws.specs.UpTo.{allUpTo};
 ghost use Rattle.laws.specs.Test.{pick};
-ghost use Rattle.graph.specs.Graph.{entryIn, blockOf, placed};
+ghost use Rattle.laws.specs.Bit.{withBit};
+ghost use Rattle.graph.specs.Graph.{entryIn, withMark, blockOf, placed};
 ghost use Rattle.graph.specs.WellFormed.{pairFits, rowFits, startsFit};
 ghost use Rattle.graph.specs.Arrangement.{at, differs, isNew, placeFits, isReordering, staysInBlock, isPermitted, placeOf, movedRow};
 
@@ -213,4 +215,97 @@ pub fn is_reordering(n: u32, p: [u8; 32]) -> bool
         }
     }
     true
+}
+
+// Does place i hold a vertex of its own block?
+fn stays_in_block(starts: u32, p: &[u8; 32], i: u32) -> bool
+    requires { ⌜ (1 ≤ i) × (i ≤ 32) × (at (now p) i ≤ 32) ⌝ }
+    ensures { λ r. ⌜ r ≡ staysInBlock starts (now (p .entry)) i ⌝ }
+{
+    let there = block_of(starts, vertex_at(p, i));
+    let here = block_of(starts, i);
+    there == here
+}
+
+// Does each place of 1..n hold a vertex of its own block?
+fn blocks_kept(n: u32, starts: u32, p: &[u8; 32]) -> bool
+    requires { ⌜ (n ≤ 32) × (isReordering n (now p) ≡ true) ⌝ }
+    ensures { λ r. ⌜ r ≡ allUpTo (staysInBlock starts (now (p .entry))) n ⌝ }
+{
+    let mut i = 0;
+    while i < n {
+        if stays_in_block(starts, p, i + 1) {
+            i += 1;
+        } else {
+            return false;
+        }
+    }
+    true
+}
+
+// Is p a reordering of 1..n that keeps every vertex in its block?
+pub fn is_permitted(n: u32, starts: u32, p: [u8; 32]) -> bool
+    requires { ⌜ n ≤ 32 ⌝ }
+    ensures { λ r. ⌜ r ≡ isPermitted n starts p ⌝ }
+{
+    if is_reordering(n, p) {
+        return blocks_kept(n, starts, &p);
+    }
+    false
+}
+
+// Place i + 1 where p has v there, else the place found before.
+fn later_place(p: &[u8; 32], v: u32, i: u8, found: u8) -> u8
+    requires { ⌜ i < 32 ⌝ }
+    ensures { λ r. ⌜ r ≡ pick (eqb (at (now (p .entry)) (i + 1)) v) (i + 1) found ⌝ }
+{
+    if vertex_at(p, small(i) + 1) == v {
+        return i + 1;
+    }
+    found
+}
+
+// The last of the places 1..n at which p has v, or 0.
+pub fn place_of(p: &[u8; 32], n: u32, v: u32) -> u8
+    requires { ⌜ n ≤ 32 ⌝ }
+    ensures { λ r. ⌜ (r ≡ placeOf (now (p .entry)) n v) × (r ≤ n) ⌝ }
+{
+    let mut found = 0u8;
+    let mut i = 0u8;
+    while small(i) < n {
+        found = later_place(p, v, i, found);
+        i += 1;
+    }
+    found
+}
+
+// ---- bits
+
+// The bit b at place k.
+pub fn weight(b: u32, k: u32) -> u32
+    requires { ⌜ (b ≤ 1) × (k < 32) ⌝ }
+    ensures { λ r. ⌜ r ≡ b * 2 ^ k ⌝ }
+{
+    b << k
+}
+
+// w with bit k made b.
+fn with_bit(w: u32, k: u32, b: u32) -> u32
+    requires { ⌜ (b ≤ 1) × (k < 32) ⌝ }
+    ensures { λ r. ⌜ r ≡ withBit w k b ⌝ }
+{
+    w - weight((w >> k) % 2, k) + weight(b, k)
+}
+
+// Both symmetric bits of (i, j) made b.
+pub fn mark(rows: &mut [u32; 32], i: u32, j: u32, b: u32)
+    requires { ⌜ (length (now rows) ≡ 32) × (b ≤ 1) × (1 ≤ i) × (i ≤ 32) × (1 ≤ j) × (j ≤ 32) × (i ≢ j) ⌝ }
+    ensures { λ r. ⌜ now (rows .exit) ≡ withMark (now (rows .entry)) i j b ⌝ }
+{
+    let s = (i - 1) as usize;
+    let t = (j - 1) as usize;
+    let w = with_bit(rows[s], j - 1, b);
+    let x = with_bit(rows[t], i - 1, b);
+    rows[s] = w;
+    rows[t] = x;
 }

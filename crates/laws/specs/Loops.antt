@@ -1,15 +1,12 @@
 -- What a loop over 1..n needs of a test, a sum, a word or a list that it builds: where it starts, what a turn adds, what it has when it stops.
-use Prim.Native.Nat.{ℕ, zero, suc, _+_, _-_, _*_, _^_, _≤_, _<_}
-use native.Mathlib.Nat.{le-suc-iff}
+use Prim.Native.Nat.{ℕ, _+_, _*_, _^_, _≤_, _<_}
 use native.Mathlib.Numerals.{add-one}
 use native.Mathlib.Omega.{arith}
 use mathlib.Core.Path.{_≡_, refl, sym, ap, _∙_}
-use mathlib.Core.Logic.{_⊎_, inl, inr, ⊎-elim}
 use mathlib.Core.Bool.{Bool, true, false}
-use mathlib.Core.List.{List, [], _∷_, _++_, append-assoc}
-use lib.ListN.{length, set, drop, replicate}
-use Rattle.laws.specs.Test.{both, pick}
+use Rattle.laws.specs.Test.{both}
 use Rattle.laws.specs.UpTo.{allUpTo, sumUpTo, wordUpTo, listUpTo}
+use Rattle.laws.specs.UpToLaws.{all-fail, word-below}
 
 -- ---- a test of each
 
@@ -26,21 +23,9 @@ all-turns f n r h e here = rw (add-one n) (rw h (rw (add-one n) at (sym e ∙ he
 pub all-done : (f : ℕ → Bool) (m n : ℕ) → allUpTo f m ≡ true → m ≤ n → n ≤ m → true ≡ allUpTo f n
 all-done f m n h p q = let e : m ≡ n = omega arith in sym h ∙ ap (allUpTo f) e
 
-both-false-right : (a : Bool) → both a false ≡ false
-unfolding both
-both-false-right true = refl
-both-false-right false = refl
-
-fails : (f : ℕ → Bool) (m n : ℕ) → f (m + 1) ≡ false → m < n → allUpTo f n ≡ false
-unfolding allUpTo both
-fails f m zero here l = absurd (omega arith)
-fails f m (suc n) here l =
-    ⊎-elim (λ (q : suc m ≤ n). rw (fails f m n here q)) (λ (q : suc m ≡ suc n). rw (← q, ← add-one m, here) (both-false-right (allUpTo f n)))
-    (le-suc-iff .0 l)
-
 -- one that fails
 pub all-stops : (f : ℕ → Bool) (m n : ℕ) (r : Bool) → r ≡ f (m + 1) → r ≡ false → m < n → false ≡ allUpTo f n
-all-stops f m n r e here l = sym (fails f m n (sym e ∙ here) l)
+all-stops f m n r e here l = sym (all-fail f n (m + 1) (omega arith) (omega arith) (sym e ∙ here))
 
 -- ---- a sum
 
@@ -54,3 +39,16 @@ sum-turns f n s r h e = rw (add-one n) (rw (← h, e, add-one n))
 
 pub sum-done : (f : ℕ → ℕ) (m n s : ℕ) → s ≡ sumUpTo f m → m ≤ n → n ≤ m → s ≡ sumUpTo f n
 sum-done f m n s h p q = let e : m ≡ n = omega arith in h ∙ ap (sumUpTo f) e
+
+-- ---- a word, from its bits
+
+pub word-starts : (f : ℕ → ℕ) → 0 ≡ wordUpTo f 0
+unfolding wordUpTo
+word-starts f = refl
+
+pub word-turns : (f : ℕ → ℕ) (n w r : ℕ) → w ≡ wordUpTo f n → r ≡ f (n + 1) * 2 ^ n → w + r ≡ wordUpTo f (n + 1)
+unfolding wordUpTo
+word-turns f n w r h e = rw (add-one n) (rw (← h, e, add-one n))
+
+pub word-done : (f : ℕ → ℕ) (m n w : ℕ) → w ≡ wordUpTo f m → m ≤ n → n ≤ m → w ≡ wordUpTo f n
+word-done f m n w h p q = let e : m ≡ n = omega arith in h ∙ ap (wordUpTo f) e
