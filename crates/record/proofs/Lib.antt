@@ -1,3 +1,4 @@
 pub mod Cases
 pub mod BitLaws
 pub mod FieldLaws
+pub mod SizeLaws

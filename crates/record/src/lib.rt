@@ -4,9 +4,12 @@ use graph::Graph;
 ghost use mathlib.Core.Path.{_≡_};
 ghost use Prim.Native.Nat.{_+_, _-_, _*_, _/_, _%_, _^_, _≤_, _<_};
 ghost use Rattle.laws.specs.Num.{num};
+ghost use Rattle.graph.specs.Graph.{mirrored};
 ghost use Rattle.graph.specs.Pairs.{pairCount, number};
-ghost use Rattle.record.specs.Layout.{entryPlace, bitCount, byteCount};
-ghost use Rattle.record.specs.Reading.{bitOf, orderIn, startsIn, refusedIn, padIn};
+ghost use Rattle.graph.specs.Answers.{noGraph};
+ghost use Rattle.record.specs.Layout.{bitCount, byteCount};
+ghost use Rattle.record.specs.Reading.{bitOf, orderIn, startIn, startsIn, isRefused, refusedIn, padIn, graphIn};
+ghost use Rattle.record.specs.Marks.{markIn, rowIn, rowsIn};
 ghost use Rattle.record.specs.Answers.{fieldAnswer, sizeAnswer, recordAt, readAnswer, restOf};
 
 // A field that was read, or why not.
@@ -88,4 +91,50 @@ pub fn field(bytes: &[u8], place: usize, width: u32) -> Value
     } else {
         Value { refusal: 1, place: bytes.len(), value: 0 }
     }
+}
+
+// ---- how long a record is
+
+// The product of two small numbers.
+fn product(a: u32, b: u32) -> u32
+    requires { ⌜ (a ≤ 64) × (b ≤ 64) ⌝ }
+    ensures { λ r. ⌜ (r ≡ a * b) × (r ≤ 4096) ⌝ }
+{
+    a * b
+}
+
+// How many pairs there are.
+fn pair_count(order: u32) -> u32
+    requires { ⌜ (1 ≤ order) × (order ≤ 32) ⌝ }
+    ensures { λ r. ⌜ (r ≡ pairCount order) × (r ≤ 2048) ⌝ }
+{
+    product(order, order - 1) / 2
+}
+
+// How many bits come before the padding.
+fn bit_count(order: u32) -> usize
+    requires { ⌜ (1 ≤ order) × (order ≤ 32) ⌝ }
+    ensures { λ r. ⌜ (r ≡ bitCount order) × (r ≤ 5000) ⌝ }
+{
+    (6 + (order - 1) + 2 * pair_count(order)) as usize
+}
+
+fn byte_count(order: u32) -> usize
+    requires { ⌜ (1 ≤ order) × (order ≤ 32) ⌝ }
+    ensures { λ r. ⌜ (r ≡ byteCount order) × (r ≤ 1000) ⌝ }
+{
+    (bit_count(order) + 7) / 8
+}
+
+// How many bytes the record of a graph of this order takes. Refuses 2 for an order outside 1..32, with the order.
+pub fn size(order: u32) -> Extent
+    ensures { λ r. ⌜ r ≡ sizeAnswer order ⌝ }
+{
+    if order < 1 {
+        return Extent { refusal: 2, place: order as usize, bytes: 0 };
+    }
+    if 32 < order {
+        return Extent { refusal: 2, place: order as usize, bytes: 0 };
+    }
+    Extent { refusal: 0, place: 0, bytes: byte_count(order) }
 }

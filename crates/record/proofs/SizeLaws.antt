@@ -1,0 +1,43 @@
+-- How long a record is.
+use Prim.Native.Nat.{ℕ, _+_, _-_, _*_, _/_, _≤_, _<_}
+use mathlib.Core.Path.{_≡_, sym, ap, _∙_}
+use native.Mathlib.Nat.{mul-le-mul}
+use native.Mathlib.Omega.{arith}
+use borrow.Author.Tests.{le-leb, lt-leb}
+use mir.Val.{Fits}
+use mir.Syntax.{w32}
+use Rattle.laws.specs.Test.{both, unless}
+use Rattle.graph.specs.WellFormed.{orderFits}
+use Rattle.graph.specs.Pairs.{pairCount}
+use Rattle.record.specs.Layout.{bitCount, byteCount}
+use Rattle.record.specs.Answers.{extent, sizeAnswer}
+
+-- two small numbers have a small product
+pub product-small : (a b : ℕ) → a ≤ 64 → b ≤ 64 → a * b ≤ 4096
+product-small a b h k = mul-le-mul h k
+
+pub product-fits : (a b : ℕ) → a ≤ 64 → b ≤ 64 → Fits w32 (a * b)
+product-fits a b h k = record { fits = omega (arith, product-small a b h k) }
+
+-- what the code sums up
+pub bits-counted : (n p : ℕ) → p ≡ pairCount n → 6 + (n - 1) + 2 * p ≡ bitCount n
+unfolding bitCount
+bits-counted n p e = rw e
+
+pub bytes-counted : (n b : ℕ) → b ≡ bitCount n → (b + 7) / 8 ≡ byteCount n
+unfolding byteCount
+bytes-counted n b e = rw e
+
+-- ---- the answer in each of its cases
+
+pub size-zero : (n : ℕ) → n < 1 → extent 2 n 0 ≡ sizeAnswer n
+unfolding sizeAnswer orderFits both unless
+size-zero n h = rw (lt-leb 1 n h)
+
+pub size-above : (n : ℕ) → 1 ≤ n → 32 < n → extent 2 n 0 ≡ sizeAnswer n
+unfolding sizeAnswer orderFits both unless
+size-above n l h = rw (le-leb 1 n l, lt-leb n 32 h)
+
+pub size-given : (n b : ℕ) → 1 ≤ n → n ≤ 32 → b ≡ byteCount n → extent 0 0 b ≡ sizeAnswer n
+unfolding sizeAnswer orderFits both unless
+size-given n b l h e = rw (le-leb 1 n l, le-leb n 32 h, e)

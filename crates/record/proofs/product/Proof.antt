@@ -1,0 +1,15 @@
+use Rattle.record.proofs.SizeLaws.{product-small, product-fits}
+use borrow.Author.Needs.{needs}
+use Rattle.record.proofs.product.Statement.{statement}
+use Rattle.record.proofs.product.Tie as tie
+use Rattle.record.proofs.product.Reads as reads
+use Rattle.record.proofs.product.Lts as lts
+
+mul-result : tie.Need-mul-result
+mul-result c = search (product-fits, needs)
+
+returns : tie.Need-returns
+returns c = search (product-small, needs)
+
+pub product-spec : {M : Type 1} → statement M
+product-spec = tie.close (tie.spec mul-result returns)

@@ -1,0 +1,22 @@
+use Rattle.record.proofs.SizeLaws.{size-zero, size-above, size-given}
+use borrow.Author.Needs.{needs}
+use Rattle.record.proofs.size.Statement.{statement}
+use Rattle.record.proofs.size.Tie as tie
+use Rattle.record.proofs.size.Reads as reads
+use Rattle.record.proofs.size.Lts as lts
+use Rattle.record.proofs.byte_count.Reads as byte-count-reads
+
+returns : tie.Need-returns
+returns c = search (size-zero, needs)
+
+returns-2 : tie.Need-returns-2
+returns-2 c = search (size-above, needs)
+
+byte-count-requires : tie.Need-byte-count-requires
+byte-count-requires c κs = search needs
+
+returns-3 : tie.Need-returns-3
+returns-3 c = search (size-given, needs)
+
+pub size-spec : {M : Type 1} → statement M
+size-spec = tie.close (tie.spec returns returns-2 byte-count-requires returns-3)
