@@ -2,3 +2,4 @@ pub mod Cases
 pub mod BitLaws
 pub mod FieldLaws
 pub mod SizeLaws
+pub mod PassLaws

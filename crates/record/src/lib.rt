@@ -1,6 +1,7 @@
 // A record holds a graph in bits, the most significant of a byte first: 6 bits of order, a bit for each vertex from 2
 // on that says whether it starts a block, 2 bits for each pair in row order, and zero bits to the end of the byte.
 use graph::Graph;
+use graph::inner::weight;
 ghost use mathlib.Core.Path.{_≡_};
 ghost use Prim.Native.Nat.{_+_, _-_, _*_, _/_, _%_, _^_, _≤_, _<_};
 ghost use Rattle.laws.specs.Num.{num};
@@ -137,4 +138,101 @@ pub fn size(order: u32) -> Extent
         return Extent { refusal: 2, place: order as usize, bytes: 0 };
     }
     Extent { refusal: 0, place: 0, bytes: byte_count(order) }
+}
+
+// ---- reading
+
+fn order_of(bytes: &[u8]) -> u32
+    ensures { λ r. ⌜ (r ≡ orderIn (bitOf (now (bytes .entry)))) × (r < 128) ⌝ }
+{
+    number_at(bytes, 0, 6)
+}
+
+// 1 where vertex v starts a block.
+fn start_of(bytes: &[u8], v: u32) -> u32
+    requires { ⌜ (1 ≤ v) × (v ≤ 32) ⌝ }
+    ensures { λ r. ⌜ (r ≡ startIn (bitOf (now (bytes .entry))) v) × (r ≤ 1) ⌝ }
+{
+    if v == 1 {
+        1
+    } else {
+        bit_after(bytes, 6, (v - 2) as usize)
+    }
+}
+
+// The word of block starts.
+fn starts_of(bytes: &[u8], order: u32) -> u32
+    requires { ⌜ order ≤ 32 ⌝ }
+    ensures { λ r. ⌜ r ≡ startsIn (bitOf (now (bytes .entry))) order ⌝ }
+{
+    let mut starts = 0;
+    let mut v = 0;
+    while v < order {
+        starts += weight(start_of(bytes, v + 1), v);
+        v += 1;
+    }
+    starts
+}
+
+// Is the entry of pair m refused?
+fn is_refused(bytes: &[u8], order: u32, m: u32) -> bool
+    requires { ⌜ (1 ≤ order) × (order ≤ 32) × (1 ≤ m) × (m ≤ 2048) ⌝ }
+    ensures { λ r. ⌜ r ≡ isRefused (bitOf (now (bytes .entry))) order m ⌝ }
+{
+    let place = 6 + (order - 1) + 2 * (m - 1);
+    number_at(bytes, place as usize, 2) == 3
+}
+
+// The number of the first pair whose entry is refused, 0 where there is none.
+fn first_refused(bytes: &[u8], order: u32) -> u32
+    requires { ⌜ (1 ≤ order) × (order ≤ 32) ⌝ }
+    ensures { λ r. ⌜ r ≡ refusedIn (bitOf (now (bytes .entry))) order ⌝ }
+{
+    let count = pair_count(order);
+    let mut m = 0;
+    while m < count {
+        if is_refused(bytes, order, m + 1) {
+            return m + 1;
+        }
+        m += 1;
+    }
+    0
+}
+
+// The bits after the last entry, as one number.
+fn pad_of(bytes: &[u8], order: u32) -> u32
+    requires { ⌜ (1 ≤ order) × (order ≤ 32) ⌝ }
+    ensures { λ r. ⌜ r ≡ padIn (bitOf (now (bytes .entry))) order ⌝ }
+{
+    let used = bit_count(order);
+    number_at(bytes, used, 8 * byte_count(order) - used)
+}
+
+// The bytes of the record at the start of these, or why it is refused.
+fn record_at(bytes: &[u8]) -> Extent
+    ensures { λ r. ⌜ r ≡ recordAt (now (bytes .entry)) ⌝ }
+{
+    let given = bytes.len();
+    if given < 1 {
+        return Extent { refusal: 1, place: given, bytes: 0 };
+    }
+    let order = order_of(bytes);
+    if order < 1 {
+        return Extent { refusal: 2, place: order as usize, bytes: 0 };
+    }
+    if 32 < order {
+        return Extent { refusal: 2, place: order as usize, bytes: 0 };
+    }
+    let taken = byte_count(order);
+    if given < taken {
+        return Extent { refusal: 1, place: given, bytes: 0 };
+    }
+    let refused = first_refused(bytes, order);
+    if refused != 0 {
+        return Extent { refusal: 3, place: refused as usize, bytes: 0 };
+    }
+    if pad_of(bytes, order) != 0 {
+        return Extent { refusal: 4, place: 0, bytes: 0 };
+    }
+    Extent { refusal: 0, place: 0, bytes: taken }
 }
