@@ -15,7 +15,7 @@ use Rattle.record.specs.declared.Record.{Record}
 use Rattle.record.specs.Layout.{bitCount, byteCount}
 use Rattle.record.specs.Reading.{bitOf, orderIn, startIn, startsIn, numberedIn, entryIn, isRefused, refusedIn, padIn, graphIn}
 use Rattle.record.specs.Writing.{entryBit, recordBit, recordByte, recordOf}
-use Rattle.record.specs.Answers.{recordAt, readAnswer, bufferAfter}
+use Rattle.record.specs.Answers.{recordIn, recordAt, readAnswer, bufferAfter}
 
 pub record Case : Type 0 where
   pub bytes : List ℕ
@@ -43,7 +43,7 @@ EachAgrees [] = Unit {0}
 EachAgrees (c ∷ cs) = Agrees c × EachAgrees cs
 
 pub worked : EachAgrees table
-unfolding both either pick unless allUpTo wordUpTo listUpTo num firstUpTo orElse drawn placed mirrored wellFormed orderFits startsFit rowFits pairFits pairs fromRow alongRow bitCount byteCount bitOf orderIn startIn startsIn numberedIn entryIn isRefused refusedIn padIn graphIn entryBit recordBit recordByte recordOf recordAt readAnswer bufferAfter
+unfolding both either pick unless allUpTo wordUpTo listUpTo num firstUpTo orElse drawn placed mirrored wellFormed orderFits startsFit rowFits pairFits pairs fromRow alongRow bitCount byteCount bitOf orderIn startIn startsIn numberedIn entryIn isRefused refusedIn padIn graphIn entryBit recordBit recordByte recordOf recordIn recordAt readAnswer bufferAfter
 worked =
     (record { is-read = refl; is-written = refl },
     (record { is-read = refl; is-written = refl }, (record { is-read = refl; is-written = refl }, tt)))

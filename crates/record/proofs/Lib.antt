@@ -3,3 +3,4 @@ pub mod BitLaws
 pub mod FieldLaws
 pub mod SizeLaws
 pub mod PassLaws
+pub mod RecordCases

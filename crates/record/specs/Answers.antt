@@ -38,15 +38,19 @@ sizeAnswer n = unless (orderFits n) (extent 2 n 0) (extent 0 0 (byteCount n))
 
 -- ---- reading
 
--- the bytes of the record at the start of s, or why it is refused
+-- how many bytes a record of order n takes whose bits f gives, or why it is refused, where so many bytes are given
+unfoldable pub recordIn : (ℕ → ℕ) → ℕ → ℕ → Extent
+recordIn f n given =
+    unless (leb 1 given) (extent 1 given 0)
+    (unless (orderFits n) (extent 2 n 0)
+    (unless (leb (byteCount n) given) (extent 1 given 0)
+    (unless (eqb (refusedIn f n) 0) (extent 3 (refusedIn f n) 0)
+    (unless (eqb (padIn f n) 0) (extent 4 0 0)
+    (extent 0 0 (byteCount n))))))
+
+-- the same of the record at the start of the bytes s
 unfoldable pub recordAt : List ℕ → Extent
-recordAt s =
-    unless (leb 1 (length s)) (extent 1 (length s) 0)
-    (unless (orderFits (orderIn (bitOf s))) (extent 2 (orderIn (bitOf s)) 0)
-    (unless (leb (byteCount (orderIn (bitOf s))) (length s)) (extent 1 (length s) 0)
-    (unless (eqb (refusedIn (bitOf s) (orderIn (bitOf s))) 0) (extent 3 (refusedIn (bitOf s) (orderIn (bitOf s))) 0)
-    (unless (eqb (padIn (bitOf s) (orderIn (bitOf s))) 0) (extent 4 0 0)
-    (extent 0 0 (byteCount (orderIn (bitOf s))))))))
+recordAt s = recordIn (bitOf s) (orderIn (bitOf s)) (length s)
 
 unfoldable pub readAnswer : List ℕ → Record
 readAnswer s =

@@ -1,3 +1,4 @@
+use Rattle.record.proofs.RecordCases.{none-given, order-zero, order-above, runs-past, entry-refused, pad-refused, accepted}
 use borrow.Author.Needs.{needs}
 use Rattle.record.proofs.record_at.Statement.{statement}
 use Rattle.record.proofs.record_at.Tie as tie
@@ -9,7 +10,7 @@ use Rattle.record.proofs.order_of.Reads as order-of-reads
 use Rattle.record.proofs.pad_of.Reads as pad-of-reads
 
 returns : tie.Need-returns
-returns c = search needs
+returns c = search (none-given, needs)
 
 order-of-requires : tie.Need-order-of-requires
 order-of-requires c κs = search needs
@@ -18,19 +19,19 @@ cast-t7 : tie.Need-cast-t7
 cast-t7 c = search needs
 
 returns-2 : tie.Need-returns-2
-returns-2 c = search needs
+returns-2 c = search (order-zero, needs)
 
 cast-t8 : tie.Need-cast-t8
 cast-t8 c = search needs
 
 returns-3 : tie.Need-returns-3
-returns-3 c = search needs
+returns-3 c = search (order-above, needs)
 
 byte-count-requires : tie.Need-byte-count-requires
 byte-count-requires c κs = search needs
 
 returns-4 : tie.Need-returns-4
-returns-4 c = search needs
+returns-4 c = search (runs-past, needs)
 
 first-refused-requires : tie.Need-first-refused-requires
 first-refused-requires c κs = search needs
@@ -39,16 +40,16 @@ cast-t9 : tie.Need-cast-t9
 cast-t9 c = search needs
 
 returns-5 : tie.Need-returns-5
-returns-5 c = search needs
+returns-5 c = search (entry-refused, needs)
 
 pad-of-requires : tie.Need-pad-of-requires
 pad-of-requires c κs = search needs
 
 returns-6 : tie.Need-returns-6
-returns-6 c = search needs
+returns-6 c = search (pad-refused, needs)
 
 returns-7 : tie.Need-returns-7
-returns-7 c = search needs
+returns-7 c = search (accepted, needs)
 
 pub record-at-spec : {M : Type 1} → statement M
 record-at-spec =
