@@ -4,3 +4,4 @@ pub mod FieldLaws
 pub mod SizeLaws
 pub mod PassLaws
 pub mod RecordCases
+pub mod MarkLaws

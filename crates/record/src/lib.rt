@@ -236,3 +236,106 @@ fn record_at(bytes: &[u8]) -> Extent
     }
     Extent { refusal: 0, place: 0, bytes: taken }
 }
+
+// The number of the pair (i, j).
+fn number_of(order: u32, i: u32, j: u32) -> u32
+    requires { ⌜ (1 ≤ i) × (i < j) × (j ≤ order) × (order ≤ 32) ⌝ }
+    ensures { λ r. ⌜ (r ≡ number order i j) × (1 ≤ r) × (r ≤ 4096) ⌝ }
+{
+    product(i - 1, 2 * order - i) / 2 + (j - i)
+}
+
+// The first bit, at 0, or the second, at 1, of the entry of the pair (i, j).
+fn mark_of(bytes: &[u8], order: u32, at: usize, i: u32, j: u32) -> u32
+    requires { ⌜ (at ≤ 1) × (1 ≤ i) × (i < j) × (j ≤ order) × (order ≤ 32) ⌝ }
+    ensures { λ r. ⌜ (r ≡ markIn (bitOf (now (bytes .entry))) order at i j) × (r ≤ 1) ⌝ }
+{
+    let place = 6 + (order - 1) + 2 * (number_of(order, i, j) - 1);
+    bit_after(bytes, place as usize, at)
+}
+
+// The same in both halves, 0 on the diagonal.
+fn mirrored_mark(bytes: &[u8], order: u32, at: usize, i: u32, j: u32) -> u32
+    requires { ⌜ (at ≤ 1) × (1 ≤ i) × (i ≤ order) × (1 ≤ j) × (j ≤ order) × (order ≤ 32) ⌝ }
+    ensures { λ r. ⌜ (r ≡ mirrored (markIn (bitOf (now (bytes .entry))) order at) i j) × (r ≤ 1) ⌝ }
+{
+    if i < j {
+        return mark_of(bytes, order, at, i, j);
+    }
+    if j < i {
+        return mark_of(bytes, order, at, j, i);
+    }
+    0
+}
+
+// These bits along row i.
+fn row_of(bytes: &[u8], order: u32, at: usize, i: u32) -> u32
+    requires { ⌜ (at ≤ 1) × (1 ≤ i) × (i ≤ order) × (order ≤ 32) ⌝ }
+    ensures { λ r. ⌜ r ≡ rowIn (bitOf (now (bytes .entry))) order at i ⌝ }
+{
+    let mut row = 0;
+    let mut j = 0;
+    while j < order {
+        row += weight(mirrored_mark(bytes, order, at, i, j + 1), j);
+        j += 1;
+    }
+    row
+}
+
+// The rows of unknowns, at 0, or of edges, at 1.
+fn rows_of(bytes: &[u8], order: u32, at: usize) -> [u32; 32]
+    requires { ⌜ (at ≤ 1) × (order ≤ 32) ⌝ }
+    ensures { λ r. ⌜ r ≡ rowsIn (bitOf (now (bytes .entry))) order at ⌝ }
+{
+    let mut rows = [0u32; 32];
+    let mut i = 0;
+    while i < order {
+        let k = i as usize;
+        rows[k] = row_of(bytes, order, at, i + 1);
+        i += 1;
+    }
+    rows
+}
+
+fn graph_of(bytes: &[u8]) -> Graph
+    requires { ⌜ orderIn (bitOf (now bytes)) ≤ 32 ⌝ }
+    ensures { λ r. ⌜ r ≡ graphIn (bitOf (now (bytes .entry))) ⌝ }
+{
+    let order = order_of(bytes);
+    let edges = rows_of(bytes, order, 1);
+    let unknowns = rows_of(bytes, order, 0);
+    let starts = starts_of(bytes, order);
+    Graph { order, edges, unknowns, starts }
+}
+
+// The graph of order 0, all zeros.
+fn no_graph() -> Graph
+    ensures { λ r. ⌜ r ≡ noGraph ⌝ }
+{
+    Graph { order: 0, edges: [0u32; 32], unknowns: [0u32; 32], starts: 0 }
+}
+
+// The graph whose record these bytes begin with.
+// Refuses 1 for no byte, with the number of bytes; 2 for an order outside 1..32, with the order; 1 for a record that runs
+// past the bytes, with their number; 3 for an entry 11, with the number of the first such pair; 4 for a pad bit 1, with 0.
+// A refusal gives the graph of order 0, all zeros.
+pub fn read(bytes: &[u8]) -> Record
+    ensures { λ r. ⌜ r ≡ readAnswer (now (bytes .entry)) ⌝ }
+{
+    let found = record_at(bytes);
+    if found.refusal == 0 {
+        let graph = graph_of(bytes);
+        return Record { refusal: found.refusal, place: found.place, graph };
+    }
+    let graph = no_graph();
+    Record { refusal: found.refusal, place: found.place, graph }
+}
+
+// The part of these bytes that follows the record at their start, all of them where reading it refuses.
+pub fn rest(bytes: &[u8]) -> &[u8]
+    ensures { λ r. ⌜ now r ≡ restOf (now (bytes .entry)) ⌝ }
+{
+    let found = record_at(bytes);
+    let taken = found.bytes;
+    &bytes[taken..]
+}

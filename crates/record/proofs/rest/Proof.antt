@@ -1,0 +1,25 @@
+use borrow.Author.Needs.{needs}
+use Rattle.record.proofs.rest.Statement.{statement}
+use Rattle.record.proofs.rest.Tie as tie
+use Rattle.record.proofs.rest.Reads as reads
+use Rattle.record.proofs.rest.Lts as lts
+use Rattle.record.proofs.record_at.Reads as record-at-reads
+
+record-at-requires : tie.Need-record-at-requires
+record-at-requires c κs = search needs
+
+sub-result : tie.Need-sub-result
+sub-result c = ?
+
+part-result-start : tie.Need-part-result-start
+part-result-start c = ?
+
+part-result-end : tie.Need-part-result-end
+part-result-end c = search needs
+
+returns : tie.Need-returns
+returns c = ?
+
+pub rest-spec : {M : Type 1} → statement M
+rest-spec =
+    tie.close (tie.spec record-at-requires sub-result part-result-start part-result-end returns)
