@@ -1,11 +1,12 @@
 -- Laws of the bits of a number.
 use Prim.Native.Nat.{ℕ, zero, suc, _+_, _-_, _*_, _/_, _%_, _^_, _≤_, _<_, min, max}
-use mathlib.Core.Path.{_≡_, refl, sym, ap, _∙_}
-use mathlib.Core.Logic.{_≢_, _⊎_, inl, inr, ⊎-elim}
+use mathlib.Core.Path.{_≡_, sym, ap, _∙_}
+use mathlib.Core.Logic.{_≢_, ⊎-elim}
 use native.Mathlib.Nat.{mod-lt, div-one, div-eq-of-lt, div-div-eq-div-mul, pow-suc, pow-succ', zero-div}
 use native.Mathlib.Omega.{arith}
 use lib.Pow.{pow-pos, pow-mono, split, high, shr-shr}
 use lib.Bits.{bitAnd, bitOr, block-half, block-odd, and-step, or-step, and-shr, or-shr}
+use Rattle.laws.specs.Compared.{compared}
 use Rattle.laws.specs.Bit.{bit, withBit}
 
 -- a bit is 0 or 1
@@ -99,14 +100,8 @@ withBit-same w k b h =
 
 -- the other bits stay
 pub withBit-other : (w k b j : ℕ) → b ≤ 1 → j ≢ k → bit (withBit w k b) j ≡ bit w j
-withBit-other w k b j h d = ⊎-elim below above (apart j k d)
+withBit-other w k b j h d = ⊎-elim below (λ o. ⊎-elim (λ e. absurd (d e)) above o) (compared j k)
   where
-    apart : (i l : ℕ) → i ≢ l → (i < l) ⊎ (l < i)
-    apart zero zero e = absurd (e refl)
-    apart zero (suc l) e = inl (omega arith)
-    apart (suc i) zero e = inr (omega arith)
-    apart (suc i) (suc l) e = ⊎-elim (λ (q : i < l). inl (omega arith)) (λ (q : l < i). inr (omega arith)) (apart i l (λ q. e (ap suc q)))
-
     below : j < k → bit (withBit w k b) j ≡ bit w j
     below l =
         ap (λ (x : ℕ). bit x j) (withBit-parts w k b) ∙ bit-of-low j k (w / 2 ^ k / 2 * 2 + b) (w % 2 ^ k) l

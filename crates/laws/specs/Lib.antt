@@ -1,6 +1,7 @@
 pub mod Test
 pub mod Bit
 pub mod UpTo
+pub mod Compared
 pub mod TestLaws
 pub mod BitLaws
 pub mod UpToLaws
