@@ -1,25 +1,22 @@
 -- The cases of two numbers.
 use Prim.Native.Nat.{ℕ, zero, suc, _≤_, _<_}
-use mathlib.Core.Path.{_≡_, refl}
-use mathlib.Core.Logic.{_≢_, _⊎_, inl, inr, ⊎-elim}
+use mathlib.Core.Path.{_≡_, refl, ap}
+use mathlib.Core.Logic.{_≢_}
 use native.Mathlib.Omega.{arith}
 
 -- one is below the other, or they are equal
-pub compared : (a b : ℕ) → (a < b) ⊎ ((a ≡ b) ⊎ (b < a))
-compared zero zero = inr (inl refl)
-compared zero (suc b) = inl (omega arith)
-compared (suc a) zero = inr (inr (omega arith))
-compared (suc a) (suc b) =
-    ⊎-elim (λ (l : a < b). inl (omega arith))
-    (λ o. inr (⊎-elim (λ (e : a ≡ b). inl (omega arith)) (λ (l : b < a). inr (omega arith)) o))
-    (compared a b)
+pub by-order : {A : Type 0} (a b : ℕ) → (a < b → A) → (a ≡ b → A) → (b < a → A) → A
+by-order zero zero below same above = same refl
+by-order zero (suc b) below same above = below (omega arith)
+by-order (suc a) zero below same above = above (omega arith)
+by-order (suc a) (suc b) below same above =
+    by-order a b (λ (l : a < b). below (omega arith)) (λ (e : a ≡ b). same (ap suc e)) (λ (l : b < a). above (omega arith))
 
 -- the first is below the second, or not
-pub below-or-from : (a b : ℕ) → (a < b) ⊎ (b ≤ a)
-below-or-from a b =
-    ⊎-elim (λ l. inl l) (λ o. inr (⊎-elim (λ (e : a ≡ b). omega arith) (λ (l : b < a). omega arith) o)) (compared a b)
+pub by-below : {A : Type 0} (a b : ℕ) → (a < b → A) → (b ≤ a → A) → A
+by-below a b below beyond =
+    by-order a b below (λ (e : a ≡ b). beyond (omega arith)) (λ (l : b < a). beyond (omega arith))
 
 -- they are equal, or not
-pub same-or-apart : (a b : ℕ) → (a ≡ b) ⊎ (a ≢ b)
-same-or-apart a b =
-    ⊎-elim (λ (l : a < b). inr (omega arith)) (λ o. ⊎-elim (λ (e : a ≡ b). inl e) (λ (l : b < a). inr (omega arith)) o) (compared a b)
+pub by-same : {A : Type 0} (a b : ℕ) → (a ≡ b → A) → (a ≢ b → A) → A
+by-same a b same apart = by-order a b (λ (l : a < b). apart (omega arith)) same (λ (l : b < a). apart (omega arith))

@@ -1,0 +1,4 @@
+pub mod Placed
+pub mod Mirrored
+pub mod Rows
+pub mod Drawn
