@@ -2,3 +2,5 @@ pub mod Placed
 pub mod Mirrored
 pub mod Rows
 pub mod Drawn
+pub mod Formed
+pub mod Permits
