@@ -2,6 +2,7 @@ pub mod Test
 pub mod Bit
 pub mod UpTo
 pub mod Loops
+pub mod Compared
 pub mod TestLaws
 pub mod BitLaws
 pub mod UpToLaws
