@@ -154,17 +154,23 @@ pub stays-is : (starts : ℕ) (p : List ℕ) (i v there here : ℕ) → there �
 unfolding staysInBlock
 stays-is starts p i v there here a e b = ap₂ eqb (a ∙ ap (blockOf starts) e) b
 
-place-holds : (n : ℕ) (p : List ℕ) (i : ℕ) → isReordering n p ≡ true → 1 ≤ i → i ≤ n → n ≤ 32 → both (leb 1 (at p i)) (both (leb (at p i) n) (isNew p i)) ≡ true
-unfolding isReordering placeFits pick
-place-holds n p i h a b l =
-    let f : placeFits n p i ≡ true = all-at (placeFits n p) 32 (both-second (eqb (length p) 32) (allUpTo (placeFits n p) 32) h) i a (omega arith) in
-    rw (le-leb i n b) at f
+module _ (n : ℕ) (p : List ℕ) (i : ℕ) (h : isReordering n p ≡ true) (a : 1 ≤ i) (b : i ≤ n) (l : n ≤ 32) where
+  place-holds : both (leb 1 (at p i)) (both (leb (at p i) n) (isNew p i)) ≡ true
+  unfolding isReordering placeFits pick
+  place-holds =
+      let f : placeFits n p i ≡ true = all-at (placeFits n p) 32 (both-second (eqb (length p) 32) (allUpTo (placeFits n p) 32) h) i a (omega arith) in
+      rw (le-leb i n b) at f
+
+  pub vertex-low : (v : ℕ) → v ≡ at p i → 1 ≤ v
+  vertex-low v e = rw e (leb-true 1 (at p i) (both-first (leb 1 (at p i)) (both (leb (at p i) n) (isNew p i)) place-holds))
+
+  pub vertex-high : (v : ℕ) → v ≡ at p i → v ≤ n
+  vertex-high v e =
+      let f : both (leb (at p i) n) (isNew p i) ≡ true = both-second (leb 1 (at p i)) (both (leb (at p i) n) (isNew p i)) place-holds in
+      rw e (leb-true (at p i) n (both-first (leb (at p i) n) (isNew p i) f))
 
 pub vertex-in : (n : ℕ) (p : List ℕ) (i : ℕ) → isReordering n p ≡ true → i < n → n ≤ 32 → at p (i + 1) ≤ 32
-vertex-in n p i h a l =
-    let f : both (leb 1 (at p (i + 1))) (both (leb (at p (i + 1)) n) (isNew p (i + 1))) ≡ true = place-holds n p (i + 1) h (omega arith) (omega arith) l in
-    let s : leb (at p (i + 1)) n ≡ true = both-first (leb (at p (i + 1)) n) (isNew p (i + 1)) (both-second (leb 1 (at p (i + 1))) (both (leb (at p (i + 1)) n) (isNew p (i + 1))) f) in
-    omega (arith, leb-true (at p (i + 1)) n s)
+vertex-in n p i h a l = omega (arith, vertex-high n p (i + 1) h (omega arith) (omega arith) l (at p (i + 1)) refl)
 
 pub known-reordering : (n : ℕ) (p : List ℕ) (r : Bool) → r ≡ isReordering n p → r ≡ true → isReordering n p ≡ true
 known-reordering n p r e h = sym e ∙ h

@@ -20,13 +20,13 @@ pub record Between (low high : ℕ) (k : Pair) : Type 0 where
   pub to-high : k .column ≤ high
 
 -- k stands in row i, at one of the m columns from j on
-record Along (i j m : ℕ) (k : Pair) : Type 0 where
-  same-row : k .row ≡ i
-  from-column : j ≤ k .column
-  to-column : k .column < j + m
+pub record Along (i j m : ℕ) (k : Pair) : Type 0 where
+  pub same-row : k .row ≡ i
+  pub from-column : j ≤ k .column
+  pub to-column : k .column < j + m
 
 -- only such pairs stand along the row
-along-given : (i j m : ℕ) (k : Pair) → List·Memᴰ k (alongRow i j m) → Along i j m k
+pub along-given : (i j m : ℕ) (k : Pair) → List·Memᴰ k (alongRow i j m) → Along i j m k
 unfolding alongRow
 along-given i j zero k h = absurd (List·Memᴰ·not-nil h)
 along-given i j (suc m) k h =
@@ -36,7 +36,7 @@ along-given i j (suc m) k h =
     (List·Memᴰ·cases-cons h)
 
 -- and all of them
-along-has : (i j m : ℕ) (k : Pair) → Along i j m k → List·Memᴰ k (alongRow i j m)
+pub along-has : (i j m : ℕ) (k : Pair) → Along i j m k → List·Memᴰ k (alongRow i j m)
 unfolding alongRow
 along-has i j zero k a = absurd (omega arith)
 along-has i j (suc m) k a = go (along-has i (suc j) m k) (eq-or-lt-of-le (a .from-column))

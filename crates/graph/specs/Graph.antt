@@ -2,6 +2,7 @@
 use Prim.Native.Nat.{ℕ, _+_, _-_, _*_, _/_, _%_}
 use mathlib.Core.List.{List, _++_}
 use lib.ListN.{getD, set, replicate}
+use lib.Count.{ones}
 use lib.Dec.{ltb}
 use Rattle.laws.specs.Test.{pick}
 use Rattle.laws.specs.Bit.{bit, withBit}
@@ -11,6 +12,10 @@ use Rattle.graph.specs.declared.Graph.{Graph}
 -- the row mask of vertex i
 abbrev pub row : List ℕ → ℕ → ℕ
 row rows i = getD rows (i - 1) 0
+
+-- how many vertices row i marks
+unfoldable pub onesAt : List ℕ → ℕ → ℕ
+onesAt rows i = ones (row rows i)
 
 -- the entry at (i, j) of rows of edges and rows of unknowns: 0 non-edge, 1 edge, 2 unknown
 abbrev pub entryIn : List ℕ → List ℕ → ℕ → ℕ → ℕ

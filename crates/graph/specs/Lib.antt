@@ -3,3 +3,4 @@ pub mod WellFormed
 pub mod Arrangement
 pub mod Pairs
 pub mod Answers
+pub mod Order

@@ -5,12 +5,12 @@ ghost use mathlib.Core.Logic.{_≢_};
 ghost use Prim.Native.Nat.{_+_, _-_, _*_, _≤_, _<_, _^_};
 ghost use lib.Dec.{leb, eqb};
 ghost use lib.ListN.{length};
-ghost use Rattle.laws.specs.UpTo.{allUpTo};
+ghost use Rattle.laws.specs.UpTo.{allUpTo, sumUpTo};
 ghost use Rattle.laws.specs.Test.{pick};
 ghost use Rattle.laws.specs.Bit.{withBit};
-ghost use Rattle.graph.specs.Graph.{entryIn, withMark, blockOf, placed};
+ghost use Rattle.graph.specs.Graph.{entryIn, withMark, onesAt, blockOf, placed};
 ghost use Rattle.graph.specs.WellFormed.{pairFits, rowFits, startsFit};
-ghost use Rattle.graph.specs.Arrangement.{at, differs, isNew, placeFits, isReordering, staysInBlock, isPermitted, placeOf, movedRow};
+ghost use Rattle.graph.specs.Arrangement.{at, differs, isNew, placeFits, isReordering, staysInBlock, isPermitted, placeOf, movedRow, through, composed, inverse};
 
 // A word as a wider one.
 fn wide(x: u32) -> u64
@@ -308,4 +308,109 @@ pub fn mark(rows: &mut [u32; 32], i: u32, j: u32, b: u32)
     let x = with_bit(rows[t], i - 1, b);
     rows[s] = w;
     rows[t] = x;
+}
+
+// ---- relabelling, composing, inverting
+
+// The vertex that a reordering of 1..n has at place i.
+pub fn vertex_of(n: u32, p: &[u8; 32], i: u32) -> u32
+    requires { ⌜ (n ≤ 32) × (isReordering n (now p) ≡ true) × (1 ≤ i) × (i ≤ n) ⌝ }
+    ensures { λ r. ⌜ (r ≡ at (now (p .entry)) i) × (1 ≤ r) × (r ≤ n) ⌝ }
+{
+    vertex_at(p, i)
+}
+
+// Row i of the rows moved by p.
+fn moved_row<'a>(rows: &'a [u32; 32], p: &'a [u8; 32], n: u32, i: u32) -> u32
+    requires { ⌜ (n ≤ 32) × (isReordering n (now p) ≡ true) × (1 ≤ i) × (i ≤ n) ⌝ }
+    ensures { λ r. ⌜ r ≡ movedRow (now (rows .entry)) (now (p .entry)) n i ⌝ }
+{
+    let from = (vertex_of(n, p, i) - 1) as usize;
+    let w = rows[from];
+    let mut row = 0;
+    let mut j = 0;
+    while j < n {
+        let to = vertex_of(n, p, j + 1) - 1;
+        row += weight((w >> to) % 2, j);
+        j += 1;
+    }
+    row
+}
+
+// The rows moved by p.
+pub fn moved_rows<'a>(rows: &'a [u32; 32], p: &'a [u8; 32], n: u32) -> [u32; 32]
+    requires { ⌜ (n ≤ 32) × (isReordering n (now p) ≡ true) ⌝ }
+    ensures { λ r. ⌜ r ≡ placed (movedRow (now (rows .entry)) (now (p .entry)) n) n ⌝ }
+{
+    let mut out = [0u32; 32];
+    let mut i = 0;
+    while i < n {
+        let at = i as usize;
+        out[at] = moved_row(rows, p, n, i + 1);
+        i += 1;
+    }
+    out
+}
+
+// The vertex that p has at the place that q has at i.
+fn through_at<'a>(n: u32, p: &'a [u8; 32], q: &'a [u8; 32], i: u32) -> u8
+    requires { ⌜ (n ≤ 32) × (isReordering n (now p) ≡ true) × (isReordering n (now q) ≡ true) × (1 ≤ i) × (i ≤ n) ⌝ }
+    ensures { λ r. ⌜ r ≡ through (now (p .entry)) (now (q .entry)) i ⌝ }
+{
+    let k = (vertex_of(n, q, i) - 1) as usize;
+    p[k]
+}
+
+// p composed with q.
+pub fn composed_of<'a>(n: u32, p: &'a [u8; 32], q: &'a [u8; 32]) -> [u8; 32]
+    requires { ⌜ (n ≤ 32) × (isReordering n (now p) ≡ true) × (isReordering n (now q) ≡ true) ⌝ }
+    ensures { λ r. ⌜ r ≡ composed n (now (p .entry)) (now (q .entry)) ⌝ }
+{
+    let mut out = [0u8; 32];
+    let mut i = 0;
+    while i < n {
+        let at = i as usize;
+        out[at] = through_at(n, p, q, i + 1);
+        i += 1;
+    }
+    out
+}
+
+// The inverse of p.
+pub fn inverse_of(n: u32, p: &[u8; 32]) -> [u8; 32]
+    requires { ⌜ n ≤ 32 ⌝ }
+    ensures { λ r. ⌜ r ≡ inverse n (now (p .entry)) ⌝ }
+{
+    let mut out = [0u8; 32];
+    let mut i = 0;
+    while i < n {
+        let at = i as usize;
+        out[at] = place_of(p, n, i + 1);
+        i += 1;
+    }
+    out
+}
+
+// ---- counts
+
+// How many bits of the rows are set.
+pub fn ones_in(rows: &[u32; 32]) -> u32
+    ensures { λ r. ⌜ (r ≡ sumUpTo (onesAt (now (rows .entry))) 32) × (r ≤ 1024) ⌝ }
+{
+    let mut sum = 0;
+    let mut i = 0;
+    while i < 32 {
+        sum += ones_at(rows, i + 1);
+        i += 1;
+    }
+    sum
+}
+
+// How many bits of row i are set.
+pub fn ones_at(rows: &[u32; 32], i: u32) -> u32
+    requires { ⌜ (1 ≤ i) × (i ≤ 32) ⌝ }
+    ensures { λ r. ⌜ (r ≡ onesAt (now (rows .entry)) i) × (r ≤ 32) ⌝ }
+{
+    let at = (i - 1) as usize;
+    u32::count_ones(rows[at])
 }

@@ -1,11 +1,12 @@
 -- Laws of the bits of a number.
 use Prim.Native.Nat.{ℕ, zero, suc, _+_, _-_, _*_, _/_, _%_, _^_, _≤_, _<_, min, max}
-use mathlib.Core.Path.{_≡_, refl, sym, ap, _∙_}
-use mathlib.Core.Logic.{_≢_, _⊎_, inl, inr, ⊎-elim}
+use mathlib.Core.Path.{_≡_, sym, ap, _∙_}
+use mathlib.Core.Logic.{_≢_}
 use native.Mathlib.Nat.{mod-lt, div-one, div-eq-of-lt, div-div-eq-div-mul, pow-suc, pow-succ', zero-div}
 use native.Mathlib.Omega.{arith}
 use lib.Pow.{pow-pos, pow-mono, split, high, shr-shr}
 use lib.Bits.{bitAnd, bitOr, block-half, block-odd, and-step, or-step, and-shr, or-shr}
+use Rattle.laws.specs.Compared.{by-order}
 use Rattle.laws.specs.Bit.{bit, withBit}
 
 -- a bit is 0 or 1
@@ -15,6 +16,10 @@ bit-small w k = omega arith
 -- the lowest bit
 pub bit-lowest : (w : ℕ) → bit w 0 ≡ w % 2
 bit-lowest w = ap (λ (x : ℕ). x % 2) (div-one w)
+
+-- zero has no bit
+pub bit-of-zero : (k : ℕ) → bit 0 k ≡ 0
+bit-of-zero k = ap (λ (x : ℕ). x % 2) (zero-div (2 ^ k))
 
 -- a later bit is a bit of the half
 pub bit-of-half : (w k : ℕ) → bit w (suc k) ≡ bit (w / 2) k
@@ -58,7 +63,7 @@ pub below-of-bits : (w n : ℕ) → ((k : ℕ) → n ≤ k → bit w k ≡ 0) �
 below-of-bits w n e =
     let none : w / 2 ^ n ≡ 0 =
     same-number (w / 2 ^ n) 0
-    (λ k. ap (λ (x : ℕ). x % 2) (shr-shr w n k) ∙ e (n + k) (omega arith) ∙ sym (ap (λ (x : ℕ). x % 2) (zero-div (2 ^ k)))) in
+    (λ k. ap (λ (x : ℕ). x % 2) (shr-shr w n k) ∙ e (n + k) (omega arith) ∙ sym (bit-of-zero k)) in
     omega (arith, split w n, ap (λ (x : ℕ). x * 2 ^ n) none, mod-lt w (pow-pos n))
 
 -- ---- bits of a high and a low part
@@ -99,14 +104,8 @@ withBit-same w k b h =
 
 -- the other bits stay
 pub withBit-other : (w k b j : ℕ) → b ≤ 1 → j ≢ k → bit (withBit w k b) j ≡ bit w j
-withBit-other w k b j h d = ⊎-elim below above (apart j k d)
+withBit-other w k b j h d = by-order j k below (λ e. absurd (d e)) above
   where
-    apart : (i l : ℕ) → i ≢ l → (i < l) ⊎ (l < i)
-    apart zero zero e = absurd (e refl)
-    apart zero (suc l) e = inl (omega arith)
-    apart (suc i) zero e = inr (omega arith)
-    apart (suc i) (suc l) e = ⊎-elim (λ (q : i < l). inl (omega arith)) (λ (q : l < i). inr (omega arith)) (apart i l (λ q. e (ap suc q)))
-
     below : j < k → bit (withBit w k b) j ≡ bit w j
     below l =
         ap (λ (x : ℕ). bit x j) (withBit-parts w k b) ∙ bit-of-low j k (w / 2 ^ k / 2 * 2 + b) (w % 2 ^ k) l
@@ -160,4 +159,4 @@ bit-of-power i = rw (power-from-zero i) at (withBit-same 0 i 1 (omega arith))
 -- and no other
 pub bit-of-power-other : (i j : ℕ) → j ≢ i → bit (2 ^ i) j ≡ 0
 bit-of-power-other i j d =
-    (rw (power-from-zero i) at (withBit-other 0 i 1 j (omega arith) d)) ∙ ap (λ (x : ℕ). x % 2) (zero-div (2 ^ j))
+    (rw (power-from-zero i) at (withBit-other 0 i 1 j (omega arith) d)) ∙ bit-of-zero j

@@ -4,6 +4,7 @@ pub mod UpTo
 pub mod Num
 pub mod First
 pub mod Loops
+pub mod Compared
 pub mod TestLaws
 pub mod BitLaws
 pub mod UpToLaws

@@ -1,10 +1,10 @@
 -- Laws of what is made of f 1, .., f n.
 use Prim.Native.Nat.{ℕ, zero, suc, _+_, _-_, _*_, _^_, _≤_, _<_}
 use mathlib.Core.Path.{_≡_, refl, sym, ap, ap₂, _∙_}
-use mathlib.Core.Logic.{_⊎_, inl, inr, ⊎-elim}
+use mathlib.Core.Logic.{⊎-elim}
 use mathlib.Core.Bool.{Bool, true, false}
 use mathlib.Core.List.{List, [], _∷_, _++_}
-use native.Mathlib.Nat.{pow-suc, mul-le-mul-right, mod-eq-of-lt}
+use native.Mathlib.Nat.{le-suc-iff, pow-suc, mul-le-mul-right, mod-eq-of-lt}
 use native.Mathlib.Omega.{arith}
 use lib.ListN.{length, getD, length-append, List·getD-append, List·getD-eq-default}
 use lib.Seq.{getD-at}
@@ -14,13 +14,6 @@ use Rattle.laws.specs.Bit.{bit}
 use Rattle.laws.specs.BitLaws.{bit-lowest, bit-of-low, bit-of-high, bits-past, same-word}
 use Rattle.laws.specs.UpTo.{allUpTo, sumUpTo, wordUpTo, listUpTo}
 
--- a number up to n + 1 is n + 1 or one up to n
-last-or-before : (k n : ℕ) → k ≤ suc n → (k ≡ suc n) ⊎ (k ≤ n)
-last-or-before zero n h = inr (omega arith)
-last-or-before (suc k) zero h = inl (omega arith)
-last-or-before (suc k) (suc n) h =
-    ⊎-elim (λ (e : k ≡ suc n). inl (omega arith)) (λ (l : k ≤ n). inr (omega arith)) (last-or-before k n (omega arith))
-
 -- ---- tests
 
 -- a test that holds at each of 1..n holds at any one
@@ -28,9 +21,9 @@ pub all-at : (f : ℕ → Bool) (n : ℕ) → allUpTo f n ≡ true → (k : ℕ)
 unfolding allUpTo
 all-at f zero e k l h = absurd (omega arith)
 all-at f (suc n) e k l h =
-    ⊎-elim (λ (q : k ≡ suc n). rw q (both-second (allUpTo f n) (f (suc n)) e))
-    (λ (m : k ≤ n). all-at f n (both-first (allUpTo f n) (f (suc n)) e) k l m)
-    (last-or-before k n h)
+    ⊎-elim (λ (m : k ≤ n). all-at f n (both-first (allUpTo f n) (f (suc n)) e) k l m)
+    (λ (q : k ≡ suc n). rw q (both-second (allUpTo f n) (f (suc n)) e))
+    (le-suc-iff .0 h)
 
 -- a test that holds at each one holds at all
 pub all-hold : (f : ℕ → Bool) (n : ℕ) → ((k : ℕ) → 1 ≤ k → k ≤ n → f k ≡ true) → allUpTo f n ≡ true
@@ -44,9 +37,9 @@ pub all-fail : (f : ℕ → Bool) (n k : ℕ) → 1 ≤ k → k ≤ n → f k �
 unfolding allUpTo
 all-fail f zero k l h e = absurd (omega arith)
 all-fail f (suc n) k l h e =
-    ⊎-elim (λ (q : k ≡ suc n). second-fails (allUpTo f n) (f (suc n)) (rw q at e))
-    (λ (m : k ≤ n). first-fails (allUpTo f n) (f (suc n)) (all-fail f n k l m e))
-    (last-or-before k n h)
+    ⊎-elim (λ (m : k ≤ n). first-fails (allUpTo f n) (f (suc n)) (all-fail f n k l m e))
+    (λ (q : k ≡ suc n). second-fails (allUpTo f n) (f (suc n)) (rw q at e))
+    (le-suc-iff .0 h)
 
 -- tests that agree on 1..n
 pub all-same : (f g : ℕ → Bool) (n : ℕ) → ((k : ℕ) → 1 ≤ k → k ≤ n → f k ≡ g k) → allUpTo f n ≡ allUpTo g n
@@ -92,14 +85,14 @@ unfolding sumUpTo
 sum-longer f zero zero h = omega arith
 sum-longer f (suc m) zero h = absurd (omega arith)
 sum-longer f m (suc n) h =
-    ⊎-elim (λ (q : m ≡ suc n). rw q (omega arith)) (λ (l : m ≤ n). omega (arith, sum-longer f m n l)) (last-or-before m n h)
+    ⊎-elim (λ (l : m ≤ n). omega (arith, sum-longer f m n l)) (λ (q : m ≡ suc n). rw q (omega arith)) (le-suc-iff .0 h)
 
 -- a sum is at least each of its terms
 pub sum-at : (f : ℕ → ℕ) (n k : ℕ) → 1 ≤ k → k ≤ n → f k ≤ sumUpTo f n
 unfolding sumUpTo
 sum-at f zero k l h = absurd (omega arith)
 sum-at f (suc n) k l h =
-    ⊎-elim (λ (q : k ≡ suc n). rw q (omega arith)) (λ (m : k ≤ n). omega (arith, sum-at f n k l m)) (last-or-before k n h)
+    ⊎-elim (λ (m : k ≤ n). omega (arith, sum-at f n k l m)) (λ (q : k ≡ suc n). rw q (omega arith)) (le-suc-iff .0 h)
 
 -- ---- words
 
@@ -121,13 +114,13 @@ word-bit f (suc n) j e l h =
     let top : f (suc n) ≤ 1 = e (suc n) (omega arith) (omega arith) in
     ap (λ (x : ℕ). bit x (j - 1)) parts
     ∙ ⊎-elim
+    (λ (m : j ≤ n). bit-of-low (j - 1) n (f (suc n)) (wordUpTo f n) (omega arith) ∙ word-bit f n j before l m)
     (λ (q : j ≡ suc n).
     let place : j - 1 ≡ n + 0 = omega arith in
     ap (λ (x : ℕ). bit (f (suc n) * 2 ^ n + wordUpTo f n) x) place
     ∙ bit-of-high 0 n (f (suc n)) (wordUpTo f n) (word-below f n before) ∙ bit-lowest (f (suc n))
     ∙ mod-eq-of-lt (omega arith) ∙ ap f (sym q))
-    (λ (m : j ≤ n). bit-of-low (j - 1) n (f (suc n)) (wordUpTo f n) (omega arith) ∙ word-bit f n j before l m)
-    (last-or-before j n h)
+    (le-suc-iff .0 h)
 
 -- past the n bits there are zeros
 pub word-past : (f : ℕ → ℕ) (n j : ℕ) → ((k : ℕ) → 1 ≤ k → k ≤ n → f k ≤ 1) → n < j → bit (wordUpTo f n) (j - 1) ≡ 0
@@ -162,11 +155,11 @@ list-at f zero i d l h = absurd (omega arith)
 list-at f (suc n) i d l h =
     let long : length (listUpTo f n) ≡ n = list-length f n in
     ⊎-elim
+    (λ (m : i ≤ n). List·getD-append (listUpTo f n) (f (suc n) ∷ []) d (i - 1) (omega arith) ∙ list-at f n i d l m)
     (λ (q : i ≡ suc n).
     let place : length (listUpTo f n) ≡ i - 1 = omega arith in
     getD-at (listUpTo f n) (f (suc n)) [] d (i - 1) place ∙ ap f (sym q))
-    (λ (m : i ≤ n). List·getD-append (listUpTo f n) (f (suc n) ∷ []) d (i - 1) (omega arith) ∙ list-at f n i d l m)
-    (last-or-before i n h)
+    (le-suc-iff .0 h)
 
 -- past the n elements there is the default
 pub list-past : {A : Type 0} (f : ℕ → A) (n i : ℕ) (d : A) → n < i → getD (listUpTo f n) (i - 1) d ≡ d

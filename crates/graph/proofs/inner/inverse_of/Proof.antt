@@ -1,0 +1,52 @@
+use borrow.Author.Needs.{needs}
+use Rattle.graph.proofs.inner.inverse_of.Statement.{statement}
+use Rattle.graph.proofs.inner.inverse_of.Tie as tie
+
+abbrev Inv-loop : tie.InvT-loop
+Inv-loop n p out₀ i₀ out i = ?
+
+abbrev μ-loop : tie.MeasureT-loop
+μ-loop n p out₀ i₀ out i = ?
+
+loop-holds : tie.Need-loop-holds Inv-loop μ-loop
+loop-holds c = search needs
+
+cast-at : tie.Need-cast-at Inv-loop μ-loop
+cast-at c = search needs
+
+add-place-of : tie.Need-add-place-of Inv-loop μ-loop
+add-place-of c = search needs
+
+place-of-requires : tie.Need-place-of-requires Inv-loop μ-loop
+place-of-requires c κs = search needs
+
+array-write-out : tie.Need-array-write-out Inv-loop μ-loop
+array-write-out c = search needs
+
+add-i : tie.Need-add-i Inv-loop μ-loop
+add-i c = search needs
+
+loop-less : tie.Need-loop-less Inv-loop μ-loop
+loop-less c = search needs
+
+loop-again : tie.Need-loop-again Inv-loop μ-loop
+loop-again c = search needs
+
+returns : tie.Need-returns Inv-loop μ-loop
+returns c = search needs
+
+pub inverse-of-spec : {M : Type 1} → statement M
+inverse-of-spec =
+    tie.close
+    (tie.spec
+    Inv-loop
+    μ-loop
+    loop-holds
+    cast-at
+    add-place-of
+    place-of-requires
+    array-write-out
+    add-i
+    loop-less
+    loop-again
+    returns)

@@ -1,0 +1,12 @@
+use borrow.Author.Needs.{needs}
+use Rattle.graph.proofs.inner.vertex_of.Statement.{statement}
+use Rattle.graph.proofs.inner.vertex_of.Tie as tie
+
+vertex-at-requires : tie.Need-vertex-at-requires
+vertex-at-requires c κs = search needs
+
+returns : tie.Need-returns
+returns c = search needs
+
+pub vertex-of-spec : {M : Type 1} → statement M
+vertex-of-spec = tie.close (tie.spec vertex-at-requires returns)
