@@ -5,3 +5,5 @@ pub mod SizeLaws
 pub mod PassLaws
 pub mod RecordCases
 pub mod MarkLaws
+pub mod Temp
+pub mod Accepted

@@ -1,6 +1,6 @@
 -- The rows that reading builds from the entries' bits.
-use Prim.Native.Nat.{ℕ, _+_, _-_, _*_, _≤_, _<_}
-use mathlib.Core.Path.{_≡_, sym, ap, _∙_}
+use Prim.Native.Nat.{ℕ, _+_, _-_, _*_, _/_, _%_, _≤_, _<_}
+use mathlib.Core.Path.{_≡_, refl, sym}
 use mathlib.Core.Bool.{Bool, true, false}
 use mathlib.Core.List.{List}
 use native.Mathlib.Omega.{arith}
@@ -8,11 +8,16 @@ use borrow.Author.Tests.{lt-ltb, le-ltb}
 use lib.Dec.{ltb}
 use Rattle.laws.specs.Test.{pick}
 use Rattle.laws.specs.UpTo.{wordUpTo}
+use Rattle.laws.specs.UpToLaws.{word-same}
 use Rattle.laws.specs.Loops.{word-done}
-use Rattle.graph.specs.Graph.{mirrored}
+use Rattle.laws.specs.Num.{num}
+use Rattle.graph.specs.Graph.{mirrored, placed, drawn}
 use Rattle.graph.specs.Pairs.{number}
-use Rattle.record.specs.Reading.{bitOf}
-use Rattle.record.specs.Marks.{markIn, rowIn}
+use Rattle.graph.proofs.Placed.{placed-same}
+use Rattle.record.specs.Layout.{entryPlace}
+use Rattle.record.specs.Reading.{bitOf, orderIn, startsIn, numberedIn, entryIn, graphIn}
+use Rattle.record.specs.Marks.{markIn, rowIn, rowsIn}
+use Rattle.record.proofs.Temp.{placed-done}
 use Rattle.record.proofs.BitLaws.{bit-small}
 
 -- ---- one bit of an entry
@@ -47,3 +52,52 @@ mirrored-small s n d i j = go (ltb i j) (ltb j i) (bit-small s (6 + (n - 1) + 2 
 pub row-done : (f : ℕ → ℕ) (n d i m w : ℕ) → w ≡ wordUpTo (mirrored (markIn f n d) i) m → m ≤ n → n ≤ m → w ≡ rowIn f n d i
 unfolding rowIn
 row-done f n d i m w e l h = word-done (mirrored (markIn f n d) i) m n w e l h
+
+-- ---- the rows, and the graph
+
+pub rows-done : (f : ℕ → ℕ) (n d m : ℕ) (rows : List ℕ) → rows ≡ placed (rowIn f n d) m → m ≤ n → n ≤ m → rows ≡ rowsIn f n d
+unfolding rowsIn
+rows-done f n d m rows e l h = placed-done (rowIn f n d) m n rows e l h
+
+-- what h makes of a mirrored table is what it makes of each entry, mirrored
+mirrored-through : (h : ℕ → ℕ) (e d : ℕ → ℕ → ℕ) → h 0 ≡ 0 → ((i j : ℕ) → d i j ≡ h (e i j)) → (i j : ℕ) → mirrored d i j ≡ h (mirrored e i j)
+unfolding mirrored pick
+mirrored-through h e d zeros each i j = go (ltb i j) (ltb j i)
+  where
+    go : (t u : Bool) → pick t (d i j) (pick u (d j i) 0) ≡ h (pick t (e i j) (pick u (e j i) 0))
+    go true u = each i j
+    go false true = each j i
+    go false false = sym zeros
+
+-- of an entry's two bits the second is its remainder by 2, and the first its half
+module _ (f : ℕ → ℕ) (small : (k : ℕ) → f k < 2) (n : ℕ) where
+  second-bit : (i j : ℕ) → markIn f n 1 i j ≡ entryIn f n i j % 2
+  unfolding markIn entryIn numberedIn num
+  second-bit i j = omega (arith, small (entryPlace n (number n i j) + 1))
+
+  first-bit : (i j : ℕ) → markIn f n 0 i j ≡ entryIn f n i j / 2
+  unfolding markIn entryIn numberedIn num
+  first-bit i j = omega (arith, small (entryPlace n (number n i j) + 1))
+
+  edge-rows : rowsIn f n 1 ≡ placed (λ i. wordUpTo (λ j. mirrored (entryIn f n) i j % 2) n) n
+  unfolding rowsIn rowIn
+  edge-rows =
+      placed-same (rowIn f n 1) (λ i. wordUpTo (λ j. mirrored (entryIn f n) i j % 2) n) n
+      (λ i low high.
+      word-same (mirrored (markIn f n 1) i) (λ j. mirrored (entryIn f n) i j % 2) n
+      (λ j l h. mirrored-through (λ x. x % 2) (entryIn f n) (markIn f n 1) refl second-bit i j))
+
+  unknown-rows : rowsIn f n 0 ≡ placed (λ i. wordUpTo (λ j. mirrored (entryIn f n) i j / 2) n) n
+  unfolding rowsIn rowIn
+  unknown-rows =
+      placed-same (rowIn f n 0) (λ i. wordUpTo (λ j. mirrored (entryIn f n) i j / 2) n) n
+      (λ i low high.
+      word-same (mirrored (markIn f n 0) i) (λ j. mirrored (entryIn f n) i j / 2) n
+      (λ j l h. mirrored-through (λ x. x / 2) (entryIn f n) (markIn f n 0) refl first-bit i j))
+
+-- the graph by its rows
+pub graph-rows : (s : List ℕ) (n w : ℕ) (es us : List ℕ) → n ≡ orderIn (bitOf s) → w ≡ startsIn (bitOf s) n → es ≡ rowsIn (bitOf s) n 1 → us ≡ rowsIn (bitOf s) n 0
+    → record { order = n; edges = es; unknowns = us; starts = w } ≡ graphIn (bitOf s)
+unfolding graphIn drawn
+graph-rows s n w es us is-n is-w is-es is-us =
+    rw (is-w, is-es, is-us, edge-rows (bitOf s) (bit-small s) n, unknown-rows (bitOf s) (bit-small s) n, is-n)

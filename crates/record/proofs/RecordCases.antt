@@ -1,14 +1,17 @@
 -- What a record at the start of the bytes comes to, in each of its cases.
-use Prim.Native.Nat.{ℕ, _≤_, _<_}
+use Prim.Native.Nat.{ℕ, _-_, _≤_, _<_}
 use mathlib.Core.Path.{_≡_, sym, ap, _∙_}
 use mathlib.Core.List.{List}
 use borrow.Author.Tests.{le-leb, lt-leb, eq-eqb, ne-eqb}
-use lib.ListN.{length}
+use native.Mathlib.Omega.{arith}
+use lib.ListN.{length, take, drop, length-drop}
+use lib.Seq.{take-all}
 use Rattle.laws.specs.Test.{both, unless}
 use Rattle.graph.specs.WellFormed.{orderFits}
+use Rattle.record.specs.declared.Extent.{Extent}
 use Rattle.record.specs.Layout.{byteCount}
 use Rattle.record.specs.Reading.{bitOf, orderIn, refusedIn, padIn}
-use Rattle.record.specs.Answers.{extent, recordIn, recordAt}
+use Rattle.record.specs.Answers.{extent, recordIn, recordAt, restOf}
 
 pub none-given : (s : List ℕ) → length s < 1 → extent 1 (length s) 0 ≡ recordAt s
 unfolding recordAt recordIn unless
@@ -52,3 +55,9 @@ module _ (s : List ℕ) (n : ℕ) (is-n : n ≡ orderIn (bitOf s)) (given : 1 �
               rw
               (← is-n, le-leb 1 (length s) given, le-leb 1 n low, le-leb n 32 high, ← is-taken, le-leb taken (length s) room,
               ← is-refused, eq-eqb refused 0 none, ← is-pad, eq-eqb pad 0 h)
+
+-- ---- what follows the record
+
+pub rest-is : (s : List ℕ) (r : Extent) → r ≡ recordAt s → take (length s - r .bytes) (drop (r .bytes) s) ≡ restOf s
+unfolding restOf
+rest-is s r e = take-all (length s - r .bytes) (drop (r .bytes) s) (rw length-drop (omega arith)) ∙ ap (λ (x : Extent). drop (x .bytes) s) e

@@ -4,6 +4,7 @@ use graph::Graph;
 use graph::inner::weight;
 ghost use mathlib.Core.Path.{_≡_};
 ghost use Prim.Native.Nat.{_+_, _-_, _*_, _/_, _%_, _^_, _≤_, _<_};
+ghost use lib.ListN.{length};
 ghost use Rattle.laws.specs.Num.{num};
 ghost use Rattle.graph.specs.Graph.{mirrored};
 ghost use Rattle.graph.specs.Pairs.{pairCount, number};
@@ -210,7 +211,7 @@ fn pad_of(bytes: &[u8], order: u32) -> u32
 
 // The bytes of the record at the start of these, or why it is refused.
 fn record_at(bytes: &[u8]) -> Extent
-    ensures { λ r. ⌜ r ≡ recordAt (now (bytes .entry)) ⌝ }
+    ensures { λ r. ⌜ (r ≡ recordAt (now (bytes .entry))) × (r .bytes ≤ length (now (bytes .entry))) ⌝ }
 {
     let given = bytes.len();
     if given < 1 {

@@ -1,3 +1,10 @@
+use Rattle.record.proofs.MarkLaws.{rows-done}
+use Rattle.record.proofs.Temp.{placed-starts, placed-turns}
+use Rattle.record.specs.Marks.{rowIn}
+use Rattle.record.specs.Reading.{bitOf}
+use Rattle.graph.specs.Graph.{placed}
+use mathlib.Core.Path.{_≡_}
+use Prim.Native.Nat.{_≤_, _-_}
 use borrow.Author.Needs.{needs}
 use Rattle.record.proofs.rows_of.Statement.{statement}
 use Rattle.record.proofs.rows_of.Tie as tie
@@ -6,13 +13,13 @@ use Rattle.record.proofs.rows_of.Lts as lts
 use Rattle.record.proofs.row_of.Reads as row-of-reads
 
 abbrev Inv-loop : tie.InvT-loop
-Inv-loop bytes order at rows₀ i₀ rows i = ?
+Inv-loop bytes order at rows₀ i₀ rows i = (i ≤ order) × (rows ≡ placed (rowIn (bitOf bytes) order at) i)
 
 abbrev μ-loop : tie.MeasureT-loop
-μ-loop bytes order at rows₀ i₀ rows i = ?
+μ-loop bytes order at rows₀ i₀ rows i = order - i
 
 loop-holds : tie.Need-loop-holds Inv-loop μ-loop
-loop-holds c = search needs
+loop-holds c = search (placed-starts, needs)
 
 cast-k : tie.Need-cast-k Inv-loop μ-loop
 cast-k c = search needs
@@ -36,10 +43,10 @@ loop-less : tie.Need-loop-less Inv-loop μ-loop
 loop-less c = search needs
 
 loop-again : tie.Need-loop-again Inv-loop μ-loop
-loop-again c = search needs
+loop-again c = search (placed-turns, needs)
 
 returns : tie.Need-returns Inv-loop μ-loop
-returns c = search needs
+returns c = search (rows-done, needs)
 
 pub rows-of-spec : {M : Type 1} → statement M
 rows-of-spec =
