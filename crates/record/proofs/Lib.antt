@@ -7,3 +7,5 @@ pub mod RecordCases
 pub mod MarkLaws
 pub mod Temp
 pub mod Accepted
+pub mod PairSearch
+pub mod WriteLaws
