@@ -8,7 +8,7 @@ use native.Mathlib.Numerals.{add-one}
 use native.Mathlib.Omega.{arith}
 use borrow.Author.Tests.{lt-ltb, le-ltb}
 use lib.Dec.{ltb}
-use lib.ListN.{length, set, drop, length-append, length-drop, length-set}
+use lib.ListN.{length, getD, set, drop}
 use lib.Pow.{pow-mono}
 use lib.Seq.{drop-cons, set-at}
 use Rattle.laws.specs.Test.{pick}
@@ -99,12 +99,13 @@ pub filled-starts : (f : ℕ → ℕ) (d : List ℕ) → d ≡ listUpTo f 0 ++ d
 unfolding listUpTo
 filled-starts f d = refl
 
-pub filled-turns : (f : ℕ → ℕ) (k v : ℕ) (out d : List ℕ) → out ≡ listUpTo f k ++ drop k d → v ≡ f (k + 1) → length out ≡ length d → k < length out
+pub filled-turns : (f : ℕ → ℕ) (k v size n : ℕ) (out d : List ℕ) → out ≡ listUpTo f k ++ drop k d → v ≡ f (k + 1) → k < size → size ≡ n → n ≤ length d
     → set out k v ≡ listUpTo f (k + 1) ++ drop (k + 1) d
 unfolding listUpTo
-filled-turns f k v out d is-out is-v long h =
+filled-turns f k v size n out d is-out is-v l is-size room =
     rw (is-out, is-v, add-one k, drop-cons d k 0 (omega arith))
-    (set-at (listUpTo f k) _ (drop (suc k) d) (f (suc k)) k (list-length f k) ∙ sym (append-assoc (listUpTo f k) (f (suc k) ∷ []) (drop (suc k) d)))
+    (set-at (listUpTo f k) (getD d k 0) (drop (suc k) d) (f (suc k)) k (list-length f k)
+    ∙ sym (append-assoc (listUpTo f k) (f (suc k) ∷ []) (drop (suc k) d)))
 
 pub filled-done : (g : Graph) (k size : ℕ) (out d : List ℕ) → out ≡ listUpTo (recordByte g) k ++ drop k d → k ≤ size → size ≤ k → size ≡ byteCount (g .order)
     → out ≡ recordOf g ++ drop (byteCount (g .order)) d

@@ -1,3 +1,10 @@
+use Rattle.record.proofs.WriteLaws.{filled-starts, filled-turns, filled-done}
+use Rattle.record.specs.Writing.{recordByte}
+use Rattle.laws.specs.UpTo.{listUpTo}
+use lib.ListN.{length, drop}
+use mathlib.Core.List.{_++_}
+use mathlib.Core.Path.{_≡_}
+use Prim.Native.Nat.{_-_, _≤_}
 use borrow.Author.Needs.{needs}
 use Rattle.record.proofs.put.Statement.{statement}
 use Rattle.record.proofs.put.Tie as tie
@@ -7,16 +14,16 @@ use Rattle.record.proofs.byte_count.Reads as byte-count-reads
 use Rattle.record.proofs.byte_of.Reads as byte-of-reads
 
 abbrev Inv-loop : tie.InvT-loop
-Inv-loop g out₀ size k₀ out k = ?
+Inv-loop g out₀ size k₀ out k = (k ≤ size) × (out ≡ listUpTo (recordByte g) k ++ drop k out₀) × (length out ≡ length out₀)
 
 abbrev μ-loop : tie.MeasureT-loop
-μ-loop g out₀ size k₀ out k = ?
+μ-loop g out₀ size k₀ out k = size - k
 
 byte-count-requires : tie.Need-byte-count-requires Inv-loop μ-loop
 byte-count-requires c κs = search needs
 
 loop-holds : tie.Need-loop-holds Inv-loop μ-loop
-loop-holds c = search needs
+loop-holds c = search (filled-starts, needs)
 
 byte-of-requires : tie.Need-byte-of-requires Inv-loop μ-loop
 byte-of-requires c κs = search needs
@@ -31,13 +38,13 @@ loop-less : tie.Need-loop-less Inv-loop μ-loop
 loop-less c = search needs
 
 loop-again : tie.Need-loop-again Inv-loop μ-loop
-loop-again c = search needs
+loop-again c = search (filled-turns, needs)
 
 same-length : tie.Need-same-length Inv-loop μ-loop
 same-length c = search needs
 
 returns : tie.Need-returns Inv-loop μ-loop
-returns c = search needs
+returns c = search (filled-done, needs)
 
 pub put-spec : {M : Type 1} → statement M
 put-spec =
