@@ -7,3 +7,5 @@ pub mod Drawn
 pub mod Formed
 pub mod Permits
 pub mod OrderLaws
+pub mod CodePlaces
+pub mod CodeAnswers

@@ -34,15 +34,15 @@ readAnswer g i j =
     (unless (isPair (g .order) i j) (reading 7 0)
     (reading 0 (entry g i j)))
 
-abbrev change : ℕ → Graph → Change
-change number g = record { refusal = number; place = 0; graph = g }
+abbrev pub changed : ℕ → Graph → Change
+changed number g = record { refusal = number; place = 0; graph = g }
 
 unfoldable pub setAnswer : Graph → ℕ → ℕ → ℕ → Change
 setAnswer g i j value =
-    unless (wellFormed g) (change 8 g)
-    (unless (isPair (g .order) i j) (change 7 g)
-    (unless (leb value 2) (change 9 g)
-    (change 0 (withEntry g i j value))))
+    unless (wellFormed g) (changed 8 g)
+    (unless (isPair (g .order) i j) (changed 7 g)
+    (unless (leb value 2) (changed 9 g)
+    (changed 0 (withEntry g i j value))))
 
 -- ---- counts
 
@@ -66,11 +66,11 @@ noGraph = record { order = 0; edges = replicate 32 0; unknowns = replicate 32 0;
 
 unfoldable pub relabelAnswer : Graph → List ℕ → Change
 relabelAnswer g p =
-    unless (wellFormed g) (change 8 noGraph)
-    (unless (isPermitted (g .order) (g .starts) p) (change 11 noGraph)
-    (change 0 (relabelled g p)))
+    unless (wellFormed g) (changed 8 noGraph)
+    (unless (isPermitted (g .order) (g .starts) p) (changed 11 noGraph)
+    (changed 0 (relabelled g p)))
 
-abbrev arrangement : ℕ → ℕ → List ℕ → Arrangement
+abbrev pub arrangement : ℕ → ℕ → List ℕ → Arrangement
 arrangement number place vs = record { refusal = number; place = place; vertices = vs }
 
 unfoldable pub composeAnswer : ℕ → List ℕ → List ℕ → Arrangement

@@ -1,0 +1,37 @@
+use borrow.Author.Needs.{needs}
+use Rattle.laws.specs.Test.{unless}
+use Rattle.graph.specs.Answers.{degreeAnswer}
+use Rattle.graph.proofs.Graph.count_at.Statement.{statement}
+use Rattle.graph.proofs.Graph.count_at.Tie as tie
+
+is-well-formed-requires : tie.Need-is-well-formed-requires
+is-well-formed-requires c κs = search needs
+
+is-vertex-requires : tie.Need-is-vertex-requires
+is-vertex-requires c κs = search needs
+
+ones-at-requires : tie.Need-ones-at-requires
+ones-at-requires c κs = search needs
+
+returns : tie.Need-returns
+unfolding degreeAnswer unless
+returns c = cc
+
+returns-2 : tie.Need-returns-2
+unfolding degreeAnswer unless
+returns-2 c = cc
+
+returns-3 : tie.Need-returns-3
+unfolding degreeAnswer unless
+returns-3 c = cc
+
+pub count-at-spec : {M : Type 1} → statement M
+count-at-spec =
+    tie.close
+    (tie.spec
+    is-well-formed-requires
+    is-vertex-requires
+    ones-at-requires
+    returns
+    returns-2
+    returns-3)

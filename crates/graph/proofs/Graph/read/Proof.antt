@@ -1,0 +1,37 @@
+use borrow.Author.Needs.{needs}
+use Rattle.laws.specs.Test.{unless}
+use Rattle.graph.specs.Answers.{readAnswer}
+use Rattle.graph.proofs.Graph.read.Statement.{statement}
+use Rattle.graph.proofs.Graph.read.Tie as tie
+
+is-well-formed-requires : tie.Need-is-well-formed-requires
+is-well-formed-requires c κs = search needs
+
+is-pair-requires : tie.Need-is-pair-requires
+is-pair-requires c κs = search needs
+
+entry-in-requires : tie.Need-entry-in-requires
+entry-in-requires c κs = search needs
+
+returns : tie.Need-returns
+unfolding readAnswer unless
+returns c = cc
+
+returns-2 : tie.Need-returns-2
+unfolding readAnswer unless
+returns-2 c = cc
+
+returns-3 : tie.Need-returns-3
+unfolding readAnswer unless
+returns-3 c = cc
+
+pub read-spec : {M : Type 1} → statement M
+read-spec =
+    tie.close
+    (tie.spec
+    is-well-formed-requires
+    is-pair-requires
+    entry-in-requires
+    returns
+    returns-2
+    returns-3)
