@@ -4,3 +4,4 @@ pub mod Rows
 pub mod Drawn
 pub mod Formed
 pub mod Permits
+pub mod Settings
