@@ -5,3 +5,4 @@ pub mod Drawn
 pub mod Formed
 pub mod Permits
 pub mod Settings
+pub mod Relabelling
