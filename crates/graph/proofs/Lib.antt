@@ -6,3 +6,4 @@ pub mod Formed
 pub mod Permits
 pub mod Settings
 pub mod Relabelling
+pub mod Composing

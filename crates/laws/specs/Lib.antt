@@ -5,3 +5,4 @@ pub mod Compared
 pub mod TestLaws
 pub mod BitLaws
 pub mod UpToLaws
+pub mod Pigeonhole
