@@ -1,13 +1,12 @@
 -- Composing puts p(q(i)) at i, and the inverse undoes an arrangement on either side. Both keep reorderings, and permitted arrangements.
 use Prim.Native.Nat.{ℕ, zero, suc, _≤_, _<_}
-use mathlib.Core.Path.{_≡_, refl, sym, ap, _∙_}
+use mathlib.Core.Path.{_≡_, sym, ap, _∙_}
 use mathlib.Core.Logic.{_≢_}
 use mathlib.Core.List.{List}
 use native.Mathlib.Omega.{arith}
 use lib.Dec.{eqb}
 use borrow.Author.Tests.{eq-eqb, ne-eqb}
 use Rattle.laws.specs.Compared.{by-order, by-below, by-same}
-use Rattle.laws.specs.Test.{pick}
 use Rattle.laws.specs.TestLaws.{pick-true, pick-false}
 use Rattle.laws.specs.Pigeonhole.{each-taken}
 use Rattle.graph.specs.Graph.{placed, blockOf}
@@ -37,9 +36,11 @@ one-place n p r i j li hi lj hj e =
 abbrev pub identity : ℕ → List ℕ
 identity n = placed (λ i. i) n
 
+-- it is a reordering
 pub identity-reordering : (n : ℕ) → n ≤ 32 → Reordering n (identity n)
 identity-reordering n h = placed-reordering n (λ i. i) h (λ i l m. l) (λ i l m. m) (λ i j l d m. omega arith)
 
+-- it is permitted in any blocks
 pub identity-permitted : (n starts : ℕ) → n ≤ 32 → Permitted n starts (identity n)
 identity-permitted n starts h =
     record { reordering = identity-reordering n h; in-block = λ i l m. ap (blockOf starts) (placed-at (λ k. k) n i l m) }
@@ -51,6 +52,7 @@ pub composed-at : (n : ℕ) (p q : List ℕ) (i : ℕ) → 1 ≤ i → i ≤ n �
 unfolding composed
 composed-at n p q i l h = placed-at (λ k. at p (at q k)) n i l h
 
+-- two reorderings compose to one
 pub composed-reordering : (n : ℕ) (p q : List ℕ) → n ≤ 32 → Reordering n p → Reordering n q → Reordering n (composed n p q)
 unfolding composed
 composed-reordering n p q h r s =
@@ -61,6 +63,7 @@ composed-reordering n p q h r s =
     let hj : j ≤ n = omega arith in
     s .once i j l d m (one-place n p r (at q i) (at q j) (s .low i li m) (s .high i li m) (s .low j l hj) (s .high j l hj) e))
 
+-- two permitted arrangements compose to a permitted one
 pub composed-permitted : (n starts : ℕ) (p q : List ℕ) → n ≤ 32 → Permitted n starts p → Permitted n starts q → Permitted n starts (composed n p q)
 composed-permitted n starts p q h a b =
     record {
@@ -131,6 +134,7 @@ module _ (n : ℕ) (p : List ℕ) (r : Reordering n p) where
   pub inverse-after : (i : ℕ) → 1 ≤ i → i ≤ n → at (inverse n p) (at p i) ≡ i
   inverse-after i l h = inverse-at n p (at p i) (r .low i l h) (r .high i l h) ∙ place-at n p r i l h
 
+  -- the inverse of a reordering is one
   pub inverse-reordering : n ≤ 32 → Reordering n (inverse n p)
   unfolding inverse
   inverse-reordering h =
@@ -139,6 +143,7 @@ module _ (n : ℕ) (p : List ℕ) (r : Reordering n p) where
       let same : v ≡ u = sym (at-place n p r v (omega arith) m) ∙ ap (at p) e ∙ at-place n p r u l (omega arith) in
       omega arith)
 
+-- the inverse of a permitted arrangement is permitted
 pub inverse-permitted : (n starts : ℕ) (p : List ℕ) → n ≤ 32 → Permitted n starts p → Permitted n starts (inverse n p)
 inverse-permitted n starts p h a =
     record {

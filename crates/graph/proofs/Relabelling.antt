@@ -1,5 +1,5 @@
 -- A relabelled graph has g's entry (p(i), p(j)) at (i, j), and is well formed.
-use Prim.Native.Nat.{ℕ, _/_, _%_, _≤_, _<_}
+use Prim.Native.Nat.{ℕ, _/_, _%_, _≤_}
 use mathlib.Core.Path.{_≡_, refl, sym, ap, ap₂, _∙_}
 use mathlib.Core.List.{List}
 use native.Mathlib.Omega.{arith}
@@ -41,7 +41,7 @@ module _ (g : Graph) (p : List ℕ) (w : WellFormed g) where
   unfolding relabelled drawn
   relabelled-starts = refl
 
-  -- so its rows are the words of the entries brought
+  -- so its rows of edges are words of the entries brought
   pub relabelled-edges : relabelled g p .edges ≡ placed (broughtEdges g p) (g .order)
   unfolding relabelled drawn
   relabelled-edges =
@@ -49,6 +49,7 @@ module _ (g : Graph) (p : List ℕ) (w : WellFormed g) where
       (λ i li hi. word-same (λ j. mirrored (brought g p) i j % 2) (λ j. brought g p i j % 2) (g .order)
       (λ j lj hj. ap (λ (x : ℕ). x % 2) (brought-mirrored i j)))
 
+  -- and so are its rows of unknowns
   pub relabelled-unknowns : relabelled g p .unknowns ≡ placed (broughtUnknowns g p) (g .order)
   unfolding relabelled drawn
   relabelled-unknowns =

@@ -1,7 +1,6 @@
 -- The rows of a well-formed graph, and what makes a graph well formed.
-use Prim.Native.Nat.{ℕ, zero, suc, _+_, _-_, _*_, _/_, _%_, _^_, _≤_, _<_}
+use Prim.Native.Nat.{ℕ, zero, suc, _-_, _/_, _%_, _^_, _≤_, _<_}
 use mathlib.Core.Path.{_≡_, sym, _∙_}
-use mathlib.Core.List.{List}
 use native.Mathlib.Omega.{arith}
 use lib.ListN.{length}
 use Rattle.laws.specs.Compared.{by-below, by-order}
@@ -36,12 +35,13 @@ module _ (g : Graph) (w : WellFormed g) where
   pub unknowns-below : (i : ℕ) → row (g .unknowns) i < 2 ^ g .order
   unknowns-below i = below-of-vertices (row (g .unknowns) i) (g .order) (λ j h. omega (arith, w .none-past i j h))
 
-  -- the rows past the order are zero
+  -- the rows of edges past the order are zero
   pub edges-past : (i : ℕ) → g .order < i → row (g .edges) i ≡ 0
   edges-past i h =
       let none : row (g .edges) i < 2 ^ 0 = below-of-vertices (row (g .edges) i) 0 (λ j l. omega (arith, past-row i j h)) in
       omega arith
 
+  -- and so are those of unknowns
   pub unknowns-past : (i : ℕ) → g .order < i → row (g .unknowns) i ≡ 0
   unknowns-past i h =
       let none : row (g .unknowns) i < 2 ^ 0 = below-of-vertices (row (g .unknowns) i) 0 (λ j l. omega (arith, past-row i j h)) in
