@@ -9,3 +9,6 @@ pub mod Permits
 pub mod OrderLaws
 pub mod CodePlaces
 pub mod CodeAnswers
+pub mod Settings
+pub mod Relabelling
+pub mod Composing

@@ -7,3 +7,4 @@ pub mod TestLaws
 pub mod BitLaws
 pub mod UpToLaws
 pub mod ListLaws
+pub mod Pigeonhole

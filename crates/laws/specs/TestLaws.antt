@@ -102,11 +102,13 @@ one-holds false b e = inr e
 
 -- ---- a choice at a known test
 
+-- the first, where the test holds
 pub pick-true : {A : Type 0} (t : Bool) (x y : A) → t ≡ true → pick t x y ≡ x
 unfolding pick
 pick-true true x y e = refl
 pick-true false x y e = absurd (false≢true e)
 
+-- the second, where it fails
 pub pick-false : {A : Type 0} (t : Bool) (x y : A) → t ≡ false → pick t x y ≡ y
 unfolding pick
 pick-false true x y e = absurd (true≢false e)
