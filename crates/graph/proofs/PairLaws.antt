@@ -1,6 +1,6 @@
 -- The pairs in row order: which they are, how many, the number of each, and the pairs from a given one on.
 use Prim.Native.Nat.{ℕ, zero, suc, _+_, _-_, _*_, _/_, _≤_, _<_}
-use native.Mathlib.Nat.{eq-or-lt-of-le, le-dest, le-of-lt, lt-of-lt-of-le}
+use native.Mathlib.Nat.{eq-or-lt-of-le, le-dest, le-of-lt, lt-of-lt-of-le, mul-le-mul}
 use native.Mathlib.Omega.{arith}
 use mathlib.Core.Path.{_≡_, refl, sym, ap, ap₂, subst, _∙_}
 use mathlib.Core.Logic.{_⊎_, inl, inr, ⊎-elim}
@@ -10,6 +10,17 @@ use lib.Seq.{take-at, drop-append-le, drop-append-seam, drop-drop, getD-drop, ge
 use Rattle.laws.specs.UpTo.{listUpTo}
 use Rattle.laws.specs.ListLaws.{map-append, getD-mem, NoRepeats, no-repeats-of-map, countUp, countUp-append, countUp-getD, countUp-upTo, countUp-no-repeats}
 use Rattle.graph.specs.Pairs.{Pair, pair, alongRow, fromRow, pairs, pairCount, number, pairOf}
+
+-- ---- matrices
+
+-- a is symmetric with a zero diagonal
+pub record Mirrored (a : ℕ → ℕ → ℕ) : Type 0 where
+  pub symmetric : (i j : ℕ) → a i j ≡ a j i
+  pub diagonal : (i : ℕ) → a i i ≡ 0
+
+-- the entry of the matrix a at a pair
+abbrev pub entryOf : (ℕ → ℕ → ℕ) → Pair → ℕ
+entryOf a k = a (k .row) (k .column)
 
 -- ---- which pairs there are
 
@@ -85,6 +96,12 @@ pairCount-suc (suc m) =
     let a : suc (suc m) - 1 ≡ suc m = omega arith in
     let b : suc m - 1 ≡ m = omega arith in
     rw (a, b) (omega arith)
+
+-- more vertices have no fewer pairs
+pub pairCount-mono : (m n : ℕ) → m ≤ n → pairCount m ≤ pairCount n
+pairCount-mono m n h =
+    let less : m - 1 ≤ n - 1 = omega arith in
+    omega (arith, mul-le-mul h less)
 
 -- a row of m pairs has m pairs
 pub alongRow-length : (i j m : ℕ) → length (alongRow i j m) ≡ m

@@ -2,3 +2,4 @@ pub mod Test
 pub mod Bit
 pub mod UpTo
 pub mod ListLaws
+pub mod SumLaws
