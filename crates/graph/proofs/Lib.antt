@@ -12,3 +12,4 @@ pub mod CodeAnswers
 pub mod Settings
 pub mod Relabelling
 pub mod Composing
+pub mod CountLaws

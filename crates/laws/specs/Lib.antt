@@ -8,3 +8,4 @@ pub mod BitLaws
 pub mod UpToLaws
 pub mod ListLaws
 pub mod Pigeonhole
+pub mod SumLaws
