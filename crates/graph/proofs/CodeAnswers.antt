@@ -14,7 +14,7 @@ use Rattle.laws.specs.UpTo.{allUpTo}
 use Rattle.graph.specs.declared.Graph.{Graph}
 use Rattle.graph.specs.WellFormed.{wellFormed, orderFits, startsFit, rowFits}
 use Rattle.graph.specs.Arrangement.{isReordering, isPermitted}
-use Rattle.graph.specs.Answers.{isVertex, isPair}
+use Rattle.graph.specs.Answers.{isVertex, isPair, reading}
 
 -- ---- orders and vertices
 
@@ -53,3 +53,8 @@ module _ (g : Graph) (e : length (g .edges) ≡ 32) (u : length (g .unknowns) �
     pub formed-rows : (d : Bool) → c ≡ true → d ≡ allUpTo (rowFits (g .order) (g .edges) (g .unknowns)) 32 → d ≡ wellFormed g
     unfolding wellFormed both
     formed-rows d k r = rw (eq-eqb (length (g .edges)) 32 e, eq-eqb (length (g .unknowns)) 32 u, sym o ∙ h, sym s ∙ k) r
+
+-- ---- answers
+
+pub reading-is : (v w : ℕ) → v ≡ w → reading 0 v ≡ reading 0 w
+reading-is v w e = ap (reading 0) e

@@ -25,7 +25,7 @@ isPair n i j = both (isVertex n i) (both (isVertex n j) (not (eqb i j)))
 
 -- ---- entries
 
-abbrev reading : ℕ → ℕ → Reading
+abbrev pub reading : ℕ → ℕ → Reading
 reading number value = record { refusal = number; place = 0; value = value }
 
 unfoldable pub readAnswer : Graph → ℕ → ℕ → Reading
@@ -46,13 +46,13 @@ setAnswer g i j value =
 
 -- ---- counts
 
-abbrev totals : ℕ → ℕ → ℕ → ℕ → Totals
+abbrev pub totals : ℕ → ℕ → ℕ → ℕ → Totals
 totals number e z u = record { refusal = number; place = 0; edges = e; «non_edges» = z; unknowns = u }
 
 unfoldable pub countAnswer : Graph → Totals
 countAnswer g = unless (wellFormed g) (totals 8 0 0 0) (totals 0 (pairsWith g 1) (pairsWith g 0) (pairsWith g 2))
 
-abbrev degree : ℕ → ℕ → Degree
+abbrev pub degree : ℕ → ℕ → Degree
 degree number e = record { refusal = number; place = 0; edges = e }
 
 unfoldable pub degreeAnswer : Graph → ℕ → Degree

@@ -1,5 +1,5 @@
 -- What tests and choices by a test come to.
-use mathlib.Core.Path.{_≡_, refl, sym}
+use mathlib.Core.Path.{_≡_, refl, sym, _∙_}
 use mathlib.Core.Logic.{_⊎_, inl, inr}
 use mathlib.Core.Bool.{Bool, true, false, true≢false, false≢true}
 use Rattle.laws.specs.Test.{both, either, pick, unless}
@@ -125,3 +125,10 @@ pub unless-false : {A : Type 0} (t : Bool) (refusal rest : A) → t ≡ false �
 unfolding unless
 unless-false true refusal rest e = absurd (true≢false e)
 unless-false false refusal rest e = refl
+
+-- an answer r, where a result b of the test is known: the refusal, or what comes after it
+pub refused : {A : Type 0} (b t : Bool) (r refusal rest : A) → b ≡ t → b ≡ false → r ≡ refusal → r ≡ unless t refusal rest
+refused b t r refusal rest e h q = q ∙ sym (unless-false t refusal rest (sym e ∙ h))
+
+pub passed : {A : Type 0} (b t : Bool) (r refusal rest : A) → b ≡ t → b ≡ true → r ≡ rest → r ≡ unless t refusal rest
+passed b t r refusal rest e h q = q ∙ sym (unless-true t refusal rest (sym e ∙ h))

@@ -1,5 +1,6 @@
 use borrow.Author.Needs.{needs}
-use Rattle.laws.specs.Test.{unless}
+use Rattle.laws.specs.TestLaws.{refused, passed}
+use Rattle.graph.proofs.CodeAnswers.{degree-is}
 use Rattle.graph.specs.Answers.{degreeAnswer}
 use Rattle.graph.proofs.Graph.count_at.Statement.{statement}
 use Rattle.graph.proofs.Graph.count_at.Tie as tie
@@ -14,16 +15,16 @@ ones-at-requires : tie.Need-ones-at-requires
 ones-at-requires c κs = search needs
 
 returns : tie.Need-returns
-unfolding degreeAnswer unless
-returns c = cc
+unfolding degreeAnswer
+returns c = search (refused, passed, degree-is, needs)
 
 returns-2 : tie.Need-returns-2
-unfolding degreeAnswer unless
-returns-2 c = cc
+unfolding degreeAnswer
+returns-2 c = search (refused, passed, degree-is, needs)
 
 returns-3 : tie.Need-returns-3
-unfolding degreeAnswer unless
-returns-3 c = cc
+unfolding degreeAnswer
+returns-3 c = search (refused, passed, degree-is, needs)
 
 pub count-at-spec : {M : Type 1} → statement M
 count-at-spec =

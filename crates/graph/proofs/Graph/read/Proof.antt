@@ -1,5 +1,6 @@
 use borrow.Author.Needs.{needs}
-use Rattle.laws.specs.Test.{unless}
+use Rattle.laws.specs.TestLaws.{refused, passed}
+use Rattle.graph.proofs.CodeAnswers.{reading-is}
 use Rattle.graph.specs.Answers.{readAnswer}
 use Rattle.graph.proofs.Graph.read.Statement.{statement}
 use Rattle.graph.proofs.Graph.read.Tie as tie
@@ -14,16 +15,16 @@ entry-in-requires : tie.Need-entry-in-requires
 entry-in-requires c κs = search needs
 
 returns : tie.Need-returns
-unfolding readAnswer unless
-returns c = cc
+unfolding readAnswer
+returns c = search (refused, passed, reading-is, needs)
 
 returns-2 : tie.Need-returns-2
-unfolding readAnswer unless
-returns-2 c = cc
+unfolding readAnswer
+returns-2 c = search (refused, passed, reading-is, needs)
 
 returns-3 : tie.Need-returns-3
-unfolding readAnswer unless
-returns-3 c = cc
+unfolding readAnswer
+returns-3 c = search (refused, passed, reading-is, needs)
 
 pub read-spec : {M : Type 1} → statement M
 read-spec =
