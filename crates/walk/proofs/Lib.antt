@@ -1,0 +1,4 @@
+pub mod Step
+pub mod Prefix
+pub mod Standing
+pub mod Words
