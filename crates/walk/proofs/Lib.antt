@@ -2,3 +2,6 @@ pub mod Step
 pub mod Prefix
 pub mod Standing
 pub mod Words
+pub mod Order
+pub mod Literals
+pub mod Sound

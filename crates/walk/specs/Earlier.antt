@@ -18,7 +18,11 @@ pub record Earlier {P : Type 0} (ks : List P) (x y : P → ℕ) : Type 0 where
   pub zero-here : x pair ≡ 0
   pub one-there : y pair ≡ 1
 
--- the test of it
+-- the copy of the drawing x under the arrangement: at each pair the entry of its image
+abbrev pub copy : {P : Type 0} → (P → P) → (P → ℕ) → P → ℕ
+copy img x k = x (img k)
+
+-- the test of being earlier
 unfoldable pub isEarlier : {P : Type 0} → List P → (P → ℕ) → (P → ℕ) → Bool
 isEarlier [] x y = false
 isEarlier (k ∷ ks) x y =
