@@ -1,3 +1,4 @@
+pub mod Test
 pub mod Step
 pub mod Prefix
 pub mod Standing
@@ -5,3 +6,7 @@ pub mod Words
 pub mod Order
 pub mod Literals
 pub mod Sound
+pub mod Number
+pub mod Clause
+pub mod Rising
+pub mod Broken

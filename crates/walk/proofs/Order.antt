@@ -12,6 +12,7 @@ use borrow.Author.Tests.{eqb-true, eq-eqb}
 use Rattle.laws.specs.Test.{both, either}
 use Rattle.laws.specs.Each.{Each, each-none, each-cons, each-first, each-rest}
 use Rattle.walk.specs.Earlier.{Earlier, isEarlier, LexLess}
+use Rattle.walk.proofs.Test.{either-second}
 
 module _ {P : Type 0} (x y : P → ℕ) where
   -- ---- one pair more
@@ -95,14 +96,10 @@ module _ {P : Type 0} (x y : P → ℕ) where
       to false o true p q r f e = earlier-later (eqb-true (x k) (y k) r) (f e)
       to false o false p q r f e = absurd (false≢true e)
 
-      or-true : (t : Bool) → either t true ≡ true
-      or-true true = refl
-      or-true false = refl
-
       from : (Earlier ks x y → isEarlier ks x y ≡ true) → ((x k ≡ 0) × (y k ≡ 1)) ⊎ ((x k ≡ y k) × Earlier ks x y)
           → either (both (eqb (x k) 0) (eqb (y k) 1)) (both (eqb (x k) (y k)) (isEarlier ks x y)) ≡ true
       from f (inl a) = rw (eq-eqb (x k) 0 (a .0), eq-eqb (y k) 1 (a .1))
-      from f (inr a) = rw (eq-eqb (x k) (y k) (a .0), f (a .1)) (or-true (both (eqb (x k) 0) (eqb (y k) 1)))
+      from f (inr a) = either-second (both (eqb (x k) 0) (eqb (y k) 1)) (both (eqb (x k) (y k)) (isEarlier ks x y)) (rw (eq-eqb (x k) (y k) (a .0), f (a .1)))
 
 -- ---- an order
 

@@ -79,6 +79,14 @@ module _ {P : Type 0} (same : P → P → Bool) (lits : List (Literal P)) where
   unfoldable pub clause : List P → List ℤ
   clause ks = clauseAfter 0 ks
 
+-- z is the number, with its sign, of one of the literals, whose pair is in ks
+pub record Written {P : Type 0} (lits : List (Literal P)) (ks : List P) (z : ℤ) : Type 0 where
+  pub literal : Literal P
+  pub listed : List·Memᴰ literal lits
+  pub number : ℕ
+  pub place : Numbered ks (pairIn literal) number
+  pub written : z ≡ signed literal number
+
 -- absolute values rise strictly, and the first is above m
 unfoldable pub RisingAbove : ℕ → List ℤ → Type 0
 RisingAbove m [] = Unit {0}
