@@ -74,9 +74,9 @@ module _ {P : Type 0} {same : P → P → Bool} (tells : Tells same) where
         let number : i + length (j ∷ before) ≡ suc i + length before = omega arith in
         rw number
         (
-          after-more (among same (absent j) lits) (among same (present j) lits) (suc i)
-          (clauseAfter same lits (suc i) (before ++ pairIn l ∷ after))
-          (stands-at l c h (suc i) before after)
+        after-more (among same (absent j) lits) (among same (present j) lits) (suc i)
+        (clauseAfter same lits (suc i) (before ++ pairIn l ∷ after))
+        (stands-at l c h (suc i) before after)
         )
 
     -- a literal whose pair has a number stands in the clause, by that number with its sign

@@ -5,6 +5,7 @@ pub mod Standing
 pub mod Words
 pub mod Order
 pub mod Literals
+pub mod Reached
 pub mod Sound
 pub mod Number
 pub mod Clause

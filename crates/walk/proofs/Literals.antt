@@ -1,10 +1,9 @@
 -- The literals of a walk: which they are, and that all are false in the drawing walked.
 use Prim.Native.Nat.{ℕ}
 use native.Mathlib.Omega.{arith}
-use mathlib.Core.Path.{_≡_, refl, sym, _∙_, ap}
-use mathlib.Core.Logic.{_↔_, _⊎_, inl, inr}
+use mathlib.Core.Path.{_≡_}
 use mathlib.Core.Bool.{Bool, true, false}
-use mathlib.Core.List.{List, [], _∷_, List·Memᴰ, List·Memᴰ·head, List·Memᴰ·tail}
+use mathlib.Core.List.{List, [], _∷_, List·Memᴰ}
 use lib.Dec.{eqb}
 use Rattle.laws.specs.Each.{Each, each-none, each-cons, each-first, each-rest}
 use Rattle.walk.specs.Walk.{Tells, Turn, wins, goes-on, loses, turn}
@@ -22,8 +21,8 @@ module _ {P : Type 0} {same : P → P → Bool} (tells : Tells same) (v : P → 
           → Breaks (met t own edge k (img k) (literals same v img ks)) v
       at (winning w) h = each-cons (FalseIn v) (w .0) (each-cons (FalseIn v) (w .1) (each-none (FalseIn v)))
       at (by-itself e n) h = h
-      at (by-edge a n) h = each-cons (FalseIn v) a h
-      at (by-gap b n) h = each-cons (FalseIn v) b h
+      at (by-edge m a n) h = each-cons (FalseIn v) a h
+      at (by-gap m b n) h = each-cons (FalseIn v) b h
       at (losing f) h = each-none (FalseIn v)
 
   -- so no pair is a literal with and without "not"

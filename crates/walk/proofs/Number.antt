@@ -25,10 +25,9 @@ pub has-number : {P : Type 0} {ks : List P} {k : P} → List·Memᴰ k ks → (m
 has-number {k} (List·Memᴰ·head {x = j} {xs = ks} e) =
     (1, record { before = []; after = ks; split = ap (λ i. i ∷ ks) (sym e); count = refl })
 has-number {k} (List·Memᴰ·tail {x = j} {xs = ks} m) =
-    let (n, at) = has-number m in
-    (
+    let (n, at) = has-number m in (
       suc n,
-      record { before = j ∷ at .before; after = at .after; split = ap (λ l. j ∷ l) (at .split); count = ap suc (at .count) }
+      record { before = j ∷ at .before; after = at .after; split = ap (λ l. j ∷ l) (at .split); count = ap suc (at .count) },
     )
 
 -- the numbers go from 1 to the length of ks

@@ -42,8 +42,7 @@ module _ {P : Type 0} (x y : P → ℕ) where
       inl (ap x first ∙ z, ap y first ∙ o)
   from-split {k} {ks} (i ∷ before) j after e a z o =
       let first : k ≡ i = cc in
-      inr
-      (
+      inr (
         ap x first ∙ each-first (λ i. x i ≡ y i) a ∙ ap y (sym first),
         record {
           before = before;
@@ -53,7 +52,7 @@ module _ {P : Type 0} (x y : P → ℕ) where
           agree = each-rest (λ i. x i ≡ y i) a;
           zero-here = z;
           one-there = o;
-        }
+        },
       )
 
   -- and in no other way
@@ -82,11 +81,10 @@ module _ {P : Type 0} (x y : P → ℕ) where
   pub isEarlier-tells : (ks : List P) → (isEarlier ks x y ≡ true) ↔ Earlier ks x y
   unfolding isEarlier both either
   isEarlier-tells [] = (λ e. absurd (false≢true e), λ e. absurd (earlier-none e))
-  isEarlier-tells (k ∷ ks) =
-      (
-        to (eqb (x k) 0) (eqb (y k) 1) (eqb (x k) (y k)) refl refl refl (isEarlier-tells ks .0),
-        λ e. from (isEarlier-tells ks .1) (earlier-cases e)
-      )
+  isEarlier-tells (k ∷ ks) = (
+    to (eqb (x k) 0) (eqb (y k) 1) (eqb (x k) (y k)) refl refl refl (isEarlier-tells ks .0),
+    λ e. from (isEarlier-tells ks .1) (earlier-cases e),
+  )
     where
       to : (z o a : Bool) → eqb (x k) 0 ≡ z → eqb (y k) 1 ≡ o → eqb (x k) (y k) ≡ a → (isEarlier ks x y ≡ true → Earlier ks x y)
           → either (both z o) (both a (isEarlier ks x y)) ≡ true → Earlier (k ∷ ks) x y

@@ -1,12 +1,12 @@
 -- The walk along two lists joined, and what a walk depends on.
 use Prim.Native.Nat.{ℕ}
-use mathlib.Core.Path.{_≡_, refl}
+use mathlib.Core.Path.{_≡_, refl, ap}
 use mathlib.Core.Bool.{Bool, true, false}
 use mathlib.Core.List.{List, [], _∷_, _++_}
 use lib.Dec.{eqb}
 use Rattle.laws.specs.Each.{Each, each-first, each-rest}
-use Rattle.walk.specs.Walk.{Turn, wins, goes-on, loses, turn, ending, walk, Outcome, won, lost, still-open, and-then}
-use Rattle.walk.specs.Clause.{Literal, absent, present, met, literals}
+use Rattle.walk.specs.Walk.{Turn, wins, goes-on, loses, turn, ending, walk, still-open, and-then}
+use Rattle.walk.specs.Clause.{met, literals}
 
 -- the same entries and the same image at k
 pub record Alike {P : Type 0} (v w : P → ℕ) (img jmg : P → P) (k : P) : Type 0 where
@@ -60,21 +60,17 @@ module _ {P : Type 0} (same : P → P → Bool) where
         at goes-on false false f h = rw (f h)
         at loses own edge f h = refl
 
-  module _ (v w : P → ℕ) (img jmg : P → P) where
-    -- the walk depends only on the entries at the pairs of ks and at their images
-    pub walk-alike : (ks : List P) → Each (Alike v w img jmg) ks → walk same v img ks ≡ walk same w jmg ks
-    unfolding walk
-    walk-alike [] h = refl
-    walk-alike (k ∷ ks) h =
-        let a : Alike v w img jmg k = each-first (Alike v w img jmg) h in
-        let rest = walk-alike ks (each-rest (Alike v w img jmg) h) in
-        cc
+  -- the walk and its literals depend only on the images of the pairs of ks and on the entries at both
+  pub walk-alike : (v w : P → ℕ) (img jmg : P → P) (ks : List P) → Each (Alike v w img jmg) ks
+      → (walk same v img ks ≡ walk same w jmg ks) × (literals same v img ks ≡ literals same w jmg ks)
+  unfolding walk literals
+  walk-alike v w img jmg [] h = (refl, refl)
+  walk-alike v w img jmg (k ∷ ks) h =
+      let a : Alike v w img jmg k = each-first (Alike v w img jmg) h in
+      let rest = walk-alike v w img jmg ks (each-rest (Alike v w img jmg) h) in
+      (cc, cc)
 
-    -- and so do its literals
-    pub literals-alike : (ks : List P) → Each (Alike v w img jmg) ks → literals same v img ks ≡ literals same w jmg ks
-    unfolding literals
-    literals-alike [] h = refl
-    literals-alike (k ∷ ks) h =
-        let a : Alike v w img jmg k = each-first (Alike v w img jmg) h in
-        let rest = literals-alike ks (each-rest (Alike v w img jmg) h) in
-        cc
+  -- so two arrangements with the same images of the pairs of ks have one walk along ks
+  pub images-alike : (v : P → ℕ) (img jmg : P → P) (ks : List P) → Each (λ k. img k ≡ jmg k) ks
+      → (walk same v img ks ≡ walk same v jmg ks) × (literals same v img ks ≡ literals same v jmg ks)
+  images-alike v img jmg ks h = walk-alike v v img jmg ks (λ k m. record { image = h k m; here = refl; there = ap v (h k m) })

@@ -44,8 +44,8 @@ module _ {P : Type 0} {same : P → P → Bool} (tells : Tells same) (v : P → 
           → Earlier (j ∷ ks) (copy img H) H
       at (winning w) e b f = earlier-here (copy img H) H (each-first (FalseIn H) (each-rest (FalseIn H) b)) (each-first (FalseIn H) b)
       at (by-itself p n) e b f = earlier-under (copy img H) H (rw p (omega arith)) here (f e b)
-      at (by-edge a n) e b f = earlier-under (copy img H) H (omega (arith, each-first (FalseIn H) b, there)) here (f e (each-rest (FalseIn H) b))
-      at (by-gap z n) e b f = earlier-under (copy img H) H (omega (arith, each-first (FalseIn H) b)) here (f e (each-rest (FalseIn H) b))
+      at (by-edge m a n) e b f = earlier-under (copy img H) H (omega (arith, each-first (FalseIn H) b, there)) here (f e (each-rest (FalseIn H) b))
+      at (by-gap m z n) e b f = earlier-under (copy img H) H (omega (arith, each-first (FalseIn H) b)) here (f e (each-rest (FalseIn H) b))
       at (losing x) e b f = absurd (lost-not-won e)
 
   -- on a full drawing, a walk is won exactly where the copy is earlier

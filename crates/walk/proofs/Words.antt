@@ -4,7 +4,7 @@ use mathlib.Core.Path.{_≡_, refl, ap, subst}
 use mathlib.Core.Logic.{_↔_, inl}
 use mathlib.Core.Bool.{Bool}
 use mathlib.Core.List.{List, [], _∷_, _++_, List·Memᴰ·head}
-use Rattle.walk.specs.Walk.{Tells, Turn, turn, ending, walk, Outcome, won, lost, still-open, and-then}
+use Rattle.walk.specs.Walk.{Tells, Turn, ending, walk, Outcome, won, lost, still-open, and-then}
 use Rattle.walk.specs.Words.{Holds, Wins, Undecided, StandsIn, FailsIn}
 use Rattle.walk.proofs.Step.{Turned, turned-won, turned-on, turned-lost, turned}
 use Rattle.walk.proofs.Standing.{undecided-none, undecided-cons, undecided-rest, stands-here, stands-later}

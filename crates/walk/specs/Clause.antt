@@ -1,6 +1,7 @@
 -- The clause of a walk: its literals, and their numbers by rising number.
 use Prim.Native.Nat.{ℕ, suc, _<_}
 use mathlib.Core.Path.{_≡_}
+use mathlib.Core.Logic.{_≢_}
 use mathlib.Core.Bool.{Bool, true, false}
 use mathlib.Core.List.{List, [], _∷_, _++_, List·Memᴰ}
 use lib.Dec.{eqb}
@@ -29,6 +30,26 @@ module _ {P : Type 0} (same : P → P → Bool) (v : P → ℕ) (img : P → P) 
   unfoldable pub literals : List P → List (Literal P)
   literals [] = []
   literals (k ∷ ks) = let rest = literals ks in met (turn same v img k) (same (img k) k) (eqb (v k) 1) k (img k) rest
+
+-- ---- the literals in words, where `reached` are the pairs up to and with the standing one
+
+-- "not j": j is reached, is an edge and isn't its own image
+pub record MetAsEdge {P : Type 0} (v : P → ℕ) (img : P → P) (reached : List P) (j : P) : Type 0 where
+  pub listed : List·Memᴰ j reached
+  pub moved : img j ≢ j
+  pub edge : v j ≡ 1
+
+-- j: it is the image of a pair that is reached and isn't its own image, and is a non-edge
+pub record MetAsGap {P : Type 0} (v : P → ℕ) (img : P → P) (reached : List P) (j : P) : Type 0 where
+  pub source : P
+  pub listed : List·Memᴰ source reached
+  pub moved : img source ≢ source
+  pub image : img source ≡ j
+  pub gap : v j ≡ 0
+
+abbrev pub Met : {P : Type 0} → (P → ℕ) → (P → P) → List P → Literal P → Type 0
+Met v img reached (absent j) = MetAsEdge v img reached j
+Met v img reached (present j) = MetAsGap v img reached j
 
 -- ---- numbers
 
