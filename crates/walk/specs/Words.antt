@@ -31,7 +31,7 @@ module _ {P : Type 0} (v : P → ℕ) (img : P → P) where
     pub split : ks ≡ before ++ k ∷ after
     pub standing : Standing before k
 
-  -- none of ks is standing up to the first pair that doesn't hold
+  -- a pair of ks doesn't hold, and those before it hold and none of them wins
   pub record FailsIn (ks : List P) : Type 0 where
     pub before : List P
     pub pair : P
