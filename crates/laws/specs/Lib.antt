@@ -9,3 +9,4 @@ pub mod UpToLaws
 pub mod ListLaws
 pub mod Pigeonhole
 pub mod SumLaws
+pub mod Each
