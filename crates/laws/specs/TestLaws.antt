@@ -132,3 +132,13 @@ refused b t r refusal rest e h q = q ∙ sym (unless-false t refusal rest (sym e
 
 pub passed : {A : Type 0} (b t : Bool) (r refusal rest : A) → b ≡ t → b ≡ true → r ≡ rest → r ≡ unless t refusal rest
 passed b t r refusal rest e h q = q ∙ sym (unless-true t refusal rest (sym e ∙ h))
+
+-- a result r of two tests, where a result a of the first is known
+pub first-failed : (a s t : Bool) → a ≡ s → a ≡ false → false ≡ both s t
+first-failed a s t e h = sym (first-fails s t (sym e ∙ h))
+
+pub first-refused : {A : Type 0} (a s t : Bool) (r refusal rest : A) → a ≡ s → a ≡ false → r ≡ refusal → r ≡ unless (both s t) refusal rest
+first-refused a s t r refusal rest e h q = refused false (both s t) r refusal rest (first-failed a s t e h) refl q
+
+pub first-held : (a s t r : Bool) → a ≡ s → a ≡ true → r ≡ t → r ≡ both s t
+first-held a s t r e h q = q ∙ sym (both-after s t (sym e ∙ h))

@@ -1,5 +1,6 @@
 use borrow.Author.Needs.{needs}
-use Rattle.laws.specs.Test.{unless}
+use Rattle.laws.specs.TestLaws.{refused, passed}
+use Rattle.graph.proofs.CodeAnswers.{order-most, arranged-is}
 use Rattle.graph.specs.Answers.{invertAnswer}
 use Rattle.graph.proofs.invert.Statement.{statement}
 use Rattle.graph.proofs.invert.Tie as tie
@@ -11,28 +12,28 @@ is-reordering-requires : tie.Need-is-reordering-requires
 is-reordering-requires c κs = search needs
 
 inverse-of-requires : tie.Need-inverse-of-requires
-inverse-of-requires c κs = search needs
+inverse-of-requires c κs = search (order-most, needs)
 
 arranged-requires : tie.Need-arranged-requires
 arranged-requires c κs = search needs
 
 returns : tie.Need-returns
-unfolding invertAnswer unless
-returns c = cc
+unfolding invertAnswer
+returns c = search (refused, passed, arranged-is, needs)
 
 unarranged-requires : tie.Need-unarranged-requires
 unarranged-requires c κs = search needs
 
 returns-2 : tie.Need-returns-2
-unfolding invertAnswer unless
-returns-2 c = cc
+unfolding invertAnswer
+returns-2 c = search (refused, passed, arranged-is, needs)
 
 unarranged-requires-2 : tie.Need-unarranged-requires-2
 unarranged-requires-2 c κs = search needs
 
 returns-3 : tie.Need-returns-3
-unfolding invertAnswer unless
-returns-3 c = cc
+unfolding invertAnswer
+returns-3 c = search (refused, passed, arranged-is, needs)
 
 pub invert-spec : {M : Type 1} → statement M
 invert-spec =

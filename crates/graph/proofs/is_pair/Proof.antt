@@ -1,5 +1,5 @@
 use borrow.Author.Needs.{needs}
-use Rattle.laws.specs.Test.{both}
+use Rattle.laws.specs.TestLaws.{first-failed, first-held}
 use Rattle.graph.specs.Answers.{isPair}
 use Rattle.graph.proofs.is_pair.Statement.{statement}
 use Rattle.graph.proofs.is_pair.Tie as tie
@@ -11,16 +11,16 @@ is-vertex-requires-2 : tie.Need-is-vertex-requires-2
 is-vertex-requires-2 c κs = search needs
 
 returns : tie.Need-returns
-unfolding isPair both
-returns c = cc
+unfolding isPair
+returns c = search (first-failed, first-held, needs)
 
 returns-2 : tie.Need-returns-2
-unfolding isPair both
-returns-2 c = cc
+unfolding isPair
+returns-2 c = search (first-failed, first-held, needs)
 
 returns-3 : tie.Need-returns-3
-unfolding isPair both
-returns-3 c = cc
+unfolding isPair
+returns-3 c = search (first-failed, first-held, needs)
 
 pub is-pair-spec : {M : Type 1} → statement M
 is-pair-spec =

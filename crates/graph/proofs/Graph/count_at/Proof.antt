@@ -1,6 +1,6 @@
 use borrow.Author.Needs.{needs}
 use Rattle.laws.specs.TestLaws.{refused, passed}
-use Rattle.graph.proofs.CodeAnswers.{degree-is}
+use Rattle.graph.proofs.CodeAnswers.{vertex-low, vertex-most, degree-is}
 use Rattle.graph.specs.Answers.{degreeAnswer}
 use Rattle.graph.proofs.Graph.count_at.Statement.{statement}
 use Rattle.graph.proofs.Graph.count_at.Tie as tie
@@ -12,7 +12,7 @@ is-vertex-requires : tie.Need-is-vertex-requires
 is-vertex-requires c κs = search needs
 
 ones-at-requires : tie.Need-ones-at-requires
-ones-at-requires c κs = search needs
+ones-at-requires c κs = search (vertex-low, vertex-most, needs)
 
 returns : tie.Need-returns
 unfolding degreeAnswer

@@ -1,6 +1,6 @@
 use borrow.Author.Needs.{needs}
 use Rattle.laws.specs.TestLaws.{refused, passed}
-use Rattle.graph.proofs.CodeAnswers.{reading-is}
+use Rattle.graph.proofs.CodeAnswers.{row-low, row-most, column-low, column-most, reading-is}
 use Rattle.graph.specs.Answers.{readAnswer}
 use Rattle.graph.proofs.Graph.read.Statement.{statement}
 use Rattle.graph.proofs.Graph.read.Tie as tie
@@ -12,7 +12,7 @@ is-pair-requires : tie.Need-is-pair-requires
 is-pair-requires c κs = search needs
 
 entry-in-requires : tie.Need-entry-in-requires
-entry-in-requires c κs = search needs
+entry-in-requires c κs = (search row-low, search row-most, search column-low, search column-most)
 
 returns : tie.Need-returns
 unfolding readAnswer
