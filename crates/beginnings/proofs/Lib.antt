@@ -1,3 +1,4 @@
 pub mod Computed
 pub mod Order
 pub mod Children
+pub mod Follows
