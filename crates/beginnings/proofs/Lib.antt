@@ -2,3 +2,4 @@ pub mod Computed
 pub mod Order
 pub mod Children
 pub mod Follows
+pub mod Subtree

@@ -1,11 +1,11 @@
 -- The reached beginnings, the steps needed and the search under a budget.
-use Prim.Native.Nat.{ℕ, zero, suc, _-_}
-use mathlib.Core.Bool.{Bool}
+use Prim.Native.Nat.{ℕ, zero, suc, _-_, _≤_, _<_}
+use mathlib.Core.Path.{_≡_}
 use mathlib.Core.List.{List, [], _∷_, _++_, flatMap}
-use lib.ListN.{length}
+use lib.ListN.{length, take}
 use lib.Dec.{ltb}
 use Rattle.laws.specs.Test.{pick}
-use Rattle.beginnings.specs.Beginning.{children}
+use Rattle.beginnings.specs.Beginning.{Beginning, children}
 
 -- how a beginning is judged
 pub data Judgement : Type 0 where
@@ -13,17 +13,18 @@ pub data Judgement : Type 0 where
   lost : Judgement
   «open» : Judgement
 
+-- a beginning all of whose shorter beginnings are open
+pub record IsReached (n : ℕ) (block : ℕ → ℕ) (judged : List ℕ → Judgement) (b : List ℕ) : Type 0 where
+  pub beginning : Beginning n block b
+  pub shorter-open : (m : ℕ) → 1 ≤ m → m < length b → judged (take m b) ≡ «open»
+
+-- ---- the list of them, as a search meets them
+
 -- the list where the judgement is open, else nothing
 unfoldable pub whereOpen : Judgement → List (List ℕ) → List (List ℕ)
 whereOpen won bs = []
 whereOpen lost bs = []
 whereOpen «open» bs = bs
-
--- nothing where the judgement is won, else the list
-unfoldable pub unlessWon : Judgement → List (List ℕ) → List (List ℕ)
-unlessWon won bs = []
-unlessWon lost bs = bs
-unlessWon «open» bs = bs
 
 module _ (n : ℕ) (block : ℕ → ℕ) (judged : List ℕ → Judgement) where
   -- b, then, where it is open and leaves places, the subtrees of b with each child; left is n less b's length
@@ -40,6 +41,14 @@ module _ (n : ℕ) (block : ℕ → ℕ) (judged : List ℕ → Judgement) where
   -- the reached beginnings: the subtrees of those of one vertex
   unfoldable pub reached : List (List ℕ)
   reached = subtrees (n - 1) [] (children n block [])
+
+-- ---- the count
+
+-- nothing where the judgement is won, else the list
+unfoldable pub unlessWon : Judgement → List (List ℕ) → List (List ℕ)
+unlessWon won bs = []
+unlessWon lost bs = bs
+unlessWon «open» bs = bs
 
 -- the list, cut after the first won one
 unfoldable pub throughWon : (List ℕ → Judgement) → List (List ℕ) → List (List ℕ)
