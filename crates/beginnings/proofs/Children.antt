@@ -63,15 +63,6 @@ module _ (block : ℕ → ℕ) (b : List ℕ) (v : ℕ) where
       go true q = eq-eqb (block v) (block (suc (length b))) e
       go false q = absurd (new (absent-false b v q))
 
-  -- what may not follow, though it lies in that block, is a member
-  pub may-not-follow : mayFollow block b v ≡ false → block v ≡ block (suc (length b)) → List·Memᴰ v b
-  unfolding mayFollow both
-  may-not-follow f e = go (absent b v) refl f
-    where
-      go : (t : Bool) → absent b v ≡ t → both t (eqb (block v) (block (suc (length b)))) ≡ false → List·Memᴰ v b
-      go true q s = absurd (false≢true (sym s ∙ eq-eqb (block v) (block (suc (length b))) e))
-      go false q s = absent-false b v q
-
 -- ---- the members
 
 module _ (block : ℕ → ℕ) (b : List ℕ) where
@@ -121,6 +112,14 @@ module _ (n : ℕ) (block : ℕ → ℕ) (b : List ℕ) (v : ℕ) where
   pub mem-of-child : Child n block b v → List·Memᴰ v (children n block b)
   unfolding children
   mem-of-child c = is-candidate block b n v (c .low) (c .high) (may-follow block b v (c .new) (c .in-block))
+
+  -- a vertex of the next place's block is a child or is used
+  pub child-or-used : 1 ≤ v → v ≤ n → block v ≡ block (suc (length b)) → List·Memᴰ v (children n block b) ⊎ List·Memᴰ v b
+  child-or-used low high e = go (absent b v) refl
+    where
+      go : (t : Bool) → absent b v ≡ t → List·Memᴰ v (children n block b) ⊎ List·Memᴰ v b
+      go true q = inl (mem-of-child (record { low = low; high = high; new = absent-true b v q; in-block = e }))
+      go false q = inr (absent-false b v q)
 
 -- ---- the order
 

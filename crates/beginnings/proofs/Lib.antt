@@ -3,3 +3,5 @@ pub mod Order
 pub mod Children
 pub mod Follows
 pub mod Subtree
+pub mod Reached
+pub mod Room

@@ -55,14 +55,14 @@ module _ (n : ℕ) (block : ℕ → ℕ) (judged : List ℕ → Judgement) where
   Reaches p (v ∷ c) = (judged p ≡ «open») × Child n block p v × Reaches (p ++ (v ∷ [])) c
 
   -- a member of the subtrees is a member of one of them
-  from-subtrees : (left : ℕ) (p vs x : List ℕ) → List·Memᴰ x (subtrees n block judged left p vs) → (v : ℕ) × List·Memᴰ v vs × List·Memᴰ x (subtree n block judged left (p ++ (v ∷ [])))
+  pub from-subtrees : (left : ℕ) (p vs x : List ℕ) → List·Memᴰ x (subtrees n block judged left p vs) → (v : ℕ) × List·Memᴰ v vs × List·Memᴰ x (subtree n block judged left (p ++ (v ∷ [])))
   from-subtrees left p [] x m = absurd (List·Memᴰ·not-nil (rw subtrees-none at m))
   from-subtrees left p (v ∷ vs) x m =
       ⊎-elim (λ (l : List·Memᴰ x (subtree n block judged left (p ++ (v ∷ [])))). (v, List·Memᴰ·head refl, l))
       (λ (r : List·Memᴰ x (subtrees n block judged left p vs)). let s = from-subtrees left p vs x r in (s .0, List·Memᴰ·tail (s .1), s .2))
       (List·Memᴰ·append-cases (subtree n block judged left (p ++ (v ∷ []))) (rw subtrees-more at m))
 
-  into-subtrees : (left : ℕ) (p vs x : List ℕ) (v : ℕ) → List·Memᴰ v vs → List·Memᴰ x (subtree n block judged left (p ++ (v ∷ []))) → List·Memᴰ x (subtrees n block judged left p vs)
+  pub into-subtrees : (left : ℕ) (p vs x : List ℕ) (v : ℕ) → List·Memᴰ v vs → List·Memᴰ x (subtree n block judged left (p ++ (v ∷ []))) → List·Memᴰ x (subtrees n block judged left p vs)
   into-subtrees left p [] x v k m = absurd (List·Memᴰ·not-nil k)
   into-subtrees left p (w ∷ vs) x v k m =
       rw subtrees-more
