@@ -5,3 +5,5 @@ pub mod Follows
 pub mod Subtree
 pub mod Reached
 pub mod Room
+pub mod Completed
+pub mod Count
