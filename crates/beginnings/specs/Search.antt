@@ -1,7 +1,8 @@
 -- The reached beginnings, the steps needed and the search under a budget.
 use Prim.Native.Nat.{ℕ, zero, suc, _-_, _≤_, _<_}
 use mathlib.Core.Path.{_≡_}
-use mathlib.Core.List.{List, [], _∷_, _++_, flatMap}
+use mathlib.Core.Logic.{_≢_}
+use mathlib.Core.List.{List, [], _∷_, _++_, flatMap, List·Memᴰ}
 use lib.ListN.{length, take}
 use lib.Dec.{ltb}
 use Rattle.laws.specs.Test.{pick}
@@ -43,6 +44,18 @@ module _ (n : ℕ) (block : ℕ → ℕ) (judged : List ℕ → Judgement) where
   reached = subtrees (n - 1) [] (children n block [])
 
 -- ---- the count
+
+-- none of the list is won
+abbrev pub NoneWon : (List ℕ → Judgement) → List (List ℕ) → Type 0
+NoneWon judged bs = (b : List ℕ) → List·Memᴰ b bs → judged b ≢ won
+
+-- b is the first won one of the list
+pub record FirstWon (judged : List ℕ → Judgement) (bs : List (List ℕ)) (b : List ℕ) : Type 0 where
+  pub before : List (List ℕ)
+  pub after : List (List ℕ)
+  pub split : bs ≡ before ++ (b ∷ after)
+  pub none-before : NoneWon judged before
+  pub wins : judged b ≡ won
 
 -- nothing where the judgement is won, else the list
 unfoldable pub unlessWon : Judgement → List (List ℕ) → List (List ℕ)
