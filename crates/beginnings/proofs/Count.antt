@@ -103,6 +103,11 @@ module _ (judged : List ℕ → Judgement) where
       go lost e = refl
       go «open» e = refl
 
+  -- one of a list is always tried
+  pub through-some : (b : List ℕ) (bs : List (List ℕ)) → 1 ≤ length (throughWon judged (b ∷ bs))
+  unfolding throughWon
+  through-some b bs = omega arith
+
   -- where none is won it is the whole list
   pub through-none : (bs : List (List ℕ)) → NoneWon judged bs → throughWon judged bs ≡ bs
   unfolding throughWon
@@ -122,11 +127,11 @@ module _ (judged : List ℕ → Judgement) where
       nothing = through-none [] none-nil
   first-of-last (c ∷ bs) before b e w = go (won-or-not c) before e (λ rest q. first-of-last bs rest b q w)
     where
-      here : judged c ≡ won → b ≡ c → FirstWon judged (c ∷ bs) b
-      here v q = record { before = []; after = bs; split = rw q refl; none-before = none-nil; wins = w }
+      here : b ≡ c → FirstWon judged (c ∷ bs) b
+      here q = record { before = []; after = bs; split = rw q refl; none-before = none-nil; wins = w }
 
       go : (judged c ≡ won) ⊎ (judged c ≢ won) → (rest : List (List ℕ)) → throughWon judged (c ∷ bs) ≡ rest ++ (b ∷ []) → ((more : List (List ℕ)) → throughWon judged bs ≡ more ++ (b ∷ []) → FirstWon judged bs b) → FirstWon judged (c ∷ bs) b
-      go (inl v) [] q below = here v (sym (head-eq-of-cons-eq (sym (through-won c bs v) ∙ q)))
+      go (inl v) [] q below = here (sym (head-eq-of-cons-eq (sym (through-won c bs v) ∙ q)))
       go (inl v) (d ∷ rest) q below = absurd (concat-ne-nil b rest (sym (tail-eq-of-cons-eq (sym (through-won c bs v) ∙ q))))
       go (inr ne) [] q below = absurd (ne (ap judged (head-eq-of-cons-eq (sym (through-past c bs ne) ∙ q)) ∙ w))
       go (inr ne) (d ∷ rest) q below = later ne (below rest (tail-eq-of-cons-eq (sym (through-past c bs ne) ∙ q)))

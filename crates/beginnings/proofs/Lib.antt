@@ -7,3 +7,4 @@ pub mod Reached
 pub mod Room
 pub mod Completed
 pub mod Count
+pub mod Steps

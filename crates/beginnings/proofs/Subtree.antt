@@ -37,6 +37,12 @@ module _ (n : ℕ) (block : ℕ → ℕ) (judged : List ℕ → Judgement) where
   unfolding subtree subtrees whereOpen
   subtree-open left b e = rw e
 
+  -- a subtree begins with its root
+  pub subtree-root : (left : ℕ) (b : List ℕ) → (bs : List (List ℕ)) × (subtree n block judged left b ≡ b ∷ bs)
+  unfolding subtree subtrees
+  subtree-root zero b = ([], refl)
+  subtree-root (suc left) b = (whereOpen (judged b) (subtrees n block judged left b (children n block b)), refl)
+
   -- no vertices, no subtrees
   pub subtrees-none : (left : ℕ) (b : List ℕ) → subtrees n block judged left b [] ≡ []
   unfolding subtrees flatMap
@@ -96,15 +102,9 @@ module _ (n : ℕ) (block : ℕ → ℕ) (judged : List ℕ → Judgement) where
           (λ (k : List·Memᴰ x (subtrees n block judged left p (children n block p))). let s = from-subtrees left p (children n block p) x k in deeper e (s .0) (s .1) (below (s .0) (s .2)))
           (List·Memᴰ·cases-cons (rw (subtree-open left p e) at m))
 
-  -- the root of a subtree is a member of it
-  root : (left : ℕ) (p : List ℕ) → List·Memᴰ p (subtree n block judged left p)
-  unfolding subtree
-  root zero p = List·Memᴰ·head refl
-  root (suc left) p = List·Memᴰ·head refl
-
   -- whatever is reached from the root within the places left is a member
   pub into-subtree : (left : ℕ) (p c : List ℕ) → length c ≤ left → Reaches p c → List·Memᴰ (p ++ c) (subtree n block judged left p)
-  into-subtree left p [] h r = Memᴰ·cast (append-nil p) (root left p)
+  into-subtree left p [] h r = Memᴰ·cast (append-nil p) (rw (subtree-root left p .1) (List·Memᴰ·head refl))
   into-subtree zero p (v ∷ c) h r = absurd (omega arith)
   into-subtree (suc left) p (v ∷ c) h r =
       rw (subtree-open left p (r .0))
