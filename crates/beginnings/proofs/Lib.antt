@@ -8,3 +8,4 @@ pub mod Room
 pub mod Completed
 pub mod Count
 pub mod Steps
+pub mod FirstCertificate

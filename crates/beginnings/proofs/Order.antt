@@ -81,6 +81,11 @@ pub rising-append : (bs cs : List (List ℕ)) → Rising bs → Rising cs → ((
 rising-append [] cs rb rc across = rc
 rising-append (b ∷ bs) cs rb rc across = (λ c m. ⊎-elim (λ (l : List·Memᴰ c bs). rb .0 c l) (λ (r : List·Memᴰ c cs). across b c (List·Memᴰ·head refl) r) (List·Memᴰ·append-cases bs m), rising-append bs cs (rb .1) rc (λ x c l r. across x c (List·Memᴰ·tail l) r))
 
+-- the end of a rising list is rising
+pub rising-end : (bs cs : List (List ℕ)) → Rising (bs ++ cs) → Rising cs
+rising-end [] cs r = r
+rising-end (b ∷ bs) cs r = rising-end bs cs (r .1)
+
 -- a rising list has no repeats
 pub rising-once : (b : List ℕ) (bs : List (List ℕ)) → Rising (b ∷ bs) → List·Memᴰ b bs → ⊥
 rising-once b bs r m = before-irrefl b (r .0 b m)

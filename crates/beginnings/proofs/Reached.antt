@@ -9,7 +9,7 @@ use lib.Seq.{append-snoc}
 use Rattle.beginnings.specs.Beginning.{Beginning, children}
 use Rattle.beginnings.specs.Search.{Judgement, «open», IsReached, subtree, subtrees, reached}
 use Rattle.beginnings.specs.Order.{Rising}
-use Rattle.beginnings.proofs.Children.{child-of-mem, mem-of-child, children-ascend}
+use Rattle.beginnings.proofs.Children.{Child, child-of-mem, mem-of-child, children-ascend}
 use Rattle.beginnings.proofs.Follows.{Follows, beginning-follows, beginning-of}
 use Rattle.beginnings.proofs.Subtree.{Reaches, Below, from-subtrees, into-subtrees, from-subtree, into-subtree, subtrees-rise, subtree-rises}
 use Rattle.beginnings.proofs.Order.{rising-unique}
@@ -31,22 +31,21 @@ module _ (n : ℕ) (block : ℕ → ℕ) (judged : List ℕ → Judgement) where
   open-reaches p [] f o = tt
   open-reaches p (v ∷ c) f o = (rw append-nil at (o 0 (omega arith)), f .0, open-reaches (p ++ (v ∷ [])) c (f .1) (λ m h. rw (append-snoc p v (take m c)) (o (suc m) (omega arith))))
 
+  -- a first vertex and what it reaches
+  pub is-reached : (v : ℕ) (c : List ℕ) → Child n block [] v → length c ≤ n - 1 → Reaches n block judged (v ∷ []) c → IsReached n block judged (v ∷ c)
+  is-reached v c k h r =
+      record {
+        beginning = beginning-of n block (v ∷ c) (omega arith) (omega arith) (k, reaches-follows (v ∷ []) c r);
+        shorter-open = λ m l u. let q : m ≡ suc (m - 1) = omega arith in rw q (reaches-open (v ∷ []) c r (m - 1) (omega arith));
+      }
+
   -- each of the list is reached
   pub reached-sound : (b : List ℕ) → List·Memᴰ b (reached n block judged) → IsReached n block judged b
   unfolding reached
   reached-sound b m =
       let s = from-subtrees n block judged (n - 1) [] (children n block []) b m in
       let t = from-subtree n block judged (n - 1) (s .0 ∷ []) b (s .2) in
-      let k = child-of-mem n block [] (s .0) (s .1) in
-      from (s .0) (t .part) (t .joined) (t .fits) (k, reaches-follows (s .0 ∷ []) (t .part) (t .reaches)) (t .reaches) (k .low) (k .high)
-    where
-      from : (v : ℕ) (c : List ℕ) → b ≡ v ∷ c → length c ≤ n - 1 → Follows n block [] (v ∷ c) → Reaches n block judged (v ∷ []) c → 1 ≤ v → v ≤ n → IsReached n block judged b
-      from v c e h f r low high =
-          rw e
-          (record {
-            beginning = beginning-of n block (v ∷ c) (omega arith) (omega arith) f;
-            shorter-open = λ m l u. let q : m ≡ suc (m - 1) = omega arith in rw q (reaches-open (v ∷ []) c r (m - 1) (omega arith));
-          })
+      rw (t .joined) (is-reached (s .0) (t .part) (child-of-mem n block [] (s .0) (s .1)) (t .fits) (t .reaches))
 
   -- each reached one is in the list
   pub reached-complete : (b : List ℕ) → IsReached n block judged b → List·Memᴰ b (reached n block judged)

@@ -12,6 +12,10 @@ pub record Certificate (n : ℕ) (block : ℕ → ℕ) (judged : List ℕ → Ju
   pub whole : length p ≡ n
   pub wins : judged p ≡ won
 
+-- a beginning that is judged so leaves each arrangement that extends it judged so
+abbrev pub Stays : ℕ → (ℕ → ℕ) → (List ℕ → Judgement) → Judgement → Type 0
+Stays n block judged j = (b c : List ℕ) → Beginning n block b → Beginning n block (b ++ c) → length (b ++ c) ≡ n → judged b ≡ j → judged (b ++ c) ≡ j
+
 -- b with its first child
 unfoldable pub withFirst : ℕ → (ℕ → ℕ) → List ℕ → List ℕ
 withFirst n block b = b ++ (getD (children n block b) 0 0 ∷ [])
