@@ -9,3 +9,4 @@ pub mod Completed
 pub mod Count
 pub mod Steps
 pub mod FirstCertificate
+pub mod Loop
