@@ -1,16 +1,15 @@
 -- The children of a list: which vertices they are, and that they stand by rising number.
-use Prim.Native.Nat.{ℕ, zero, suc, _≤_, _<_}
-use native.Mathlib.Omega.{arith}
-use native.Mathlib.Nat.{le-suc-iff}
-use mathlib.Core.Path.{_≡_, refl, sym, _∙_}
-use mathlib.Core.Logic.{_⊎_, inl, inr, ⊎-elim}
+use Prim.Native.Nat.{ℕ, suc, _≤_}
+use mathlib.Core.Path.{_≡_, refl, sym}
+use mathlib.Core.Logic.{_⊎_, inl, inr}
 use mathlib.Core.Bool.{Bool, true, false, not, false≢true}
-use mathlib.Core.List.{List, [], _∷_, _++_, List·Memᴰ, List·Memᴰ·head, List·Memᴰ·tail, List·Memᴰ·not-nil, List·Memᴰ·cases-cons, List·Memᴰ·append-cases, List·Memᴰ·eq-of-singleton, Memᴰ·append-left, Memᴰ·append-right}
+use mathlib.Core.List.{List, [], _∷_, List·Memᴰ, List·Memᴰ·head, List·Memᴰ·tail, List·Memᴰ·not-nil, List·Memᴰ·cases-cons}
 use lib.ListN.{length}
 use lib.Dec.{eqb}
 use borrow.Author.Tests.{eqb-true, eqb-false, eq-eqb}
-use Rattle.laws.specs.Test.{both, pick}
-use Rattle.beginnings.specs.Beginning.{absent, mayFollow, candidates, children}
+use Rattle.laws.specs.Test.{both}
+use Rattle.laws.specs.Chosen.{chosen-fits, is-chosen, Ascending, chosen-ascend}
+use Rattle.beginnings.specs.Beginning.{absent, mayFollow, children}
 
 -- ---- the test
 
@@ -65,35 +64,6 @@ module _ (block : ℕ → ℕ) (b : List ℕ) (v : ℕ) where
 
 -- ---- the members
 
-module _ (block : ℕ → ℕ) (b : List ℕ) where
-  -- a candidate is one of 1..m that may follow
-  candidate : (m v : ℕ) → List·Memᴰ v (candidates block b m) → (1 ≤ v) × (v ≤ m) × (mayFollow block b v ≡ true)
-  unfolding candidates pick
-  candidate zero v k = absurd (List·Memᴰ·not-nil k)
-  candidate (suc m) v k = go (mayFollow block b (suc m)) refl k (λ l. candidate m v l)
-    where
-      Fits : ℕ → Type 0
-      Fits x = (1 ≤ v) × (v ≤ x) × (mayFollow block b v ≡ true)
-
-      go : (t : Bool) → mayFollow block b (suc m) ≡ t → List·Memᴰ v (pick t (candidates block b m ++ (suc m ∷ [])) (candidates block b m)) → (List·Memᴰ v (candidates block b m) → Fits m) → Fits (suc m)
-      go true q l below =
-          ⊎-elim (λ (j : List·Memᴰ v (candidates block b m)). (below j .0, omega (arith, below j .1), below j .2))
-          (λ (j : List·Memᴰ v (suc m ∷ [])). let e : v ≡ suc m = List·Memᴰ·eq-of-singleton j in (omega arith, omega arith, rw e q))
-          (List·Memᴰ·append-cases (candidates block b m) l)
-      go false q l below = (below l .0, omega (arith, below l .1), below l .2)
-
-  -- each of 1..m that may follow is a candidate
-  is-candidate : (m v : ℕ) → 1 ≤ v → v ≤ m → mayFollow block b v ≡ true → List·Memᴰ v (candidates block b m)
-  unfolding candidates pick
-  is-candidate zero v low high may = absurd (omega arith)
-  is-candidate (suc m) v low high may = go (mayFollow block b (suc m)) refl (le-suc-iff .0 high) (λ h. is-candidate m v low h may)
-    where
-      go : (t : Bool) → mayFollow block b (suc m) ≡ t → (v ≤ m) ⊎ (v ≡ suc m) → (v ≤ m → List·Memᴰ v (candidates block b m)) → List·Memᴰ v (pick t (candidates block b m ++ (suc m ∷ [])) (candidates block b m))
-      go true q (inl h) below = Memᴰ·append-left (suc m ∷ []) (below h)
-      go true q (inr e) below = Memᴰ·append-right (candidates block b m) (List·Memᴰ·head e)
-      go false q (inl h) below = below h
-      go false q (inr e) below = absurd (false≢true (sym q ∙ rw e at may))
-
 -- v may stand at the place after b: a vertex, unused, in that place's block
 pub record Child (n : ℕ) (block : ℕ → ℕ) (b : List ℕ) (v : ℕ) : Type 0 where
   pub low : 1 ≤ v
@@ -106,12 +76,12 @@ module _ (n : ℕ) (block : ℕ → ℕ) (b : List ℕ) (v : ℕ) where
   pub child-of-mem : List·Memᴰ v (children n block b) → Child n block b v
   unfolding children
   child-of-mem m =
-      let c = candidate block b n v m in
+      let c = chosen-fits (mayFollow block b) n v m in
       record { low = c .0; high = c .1; new = may-new block b v (c .2); in-block = may-block block b v (c .2) }
 
   pub mem-of-child : Child n block b v → List·Memᴰ v (children n block b)
   unfolding children
-  mem-of-child c = is-candidate block b n v (c .low) (c .high) (may-follow block b v (c .new) (c .in-block))
+  mem-of-child c = is-chosen (mayFollow block b) n v (c .low) (c .high) (may-follow block b v (c .new) (c .in-block))
 
   -- a vertex of the next place's block is a child or is used
   pub child-or-used : 1 ≤ v → v ≤ n → block v ≡ block (suc (length b)) → List·Memᴰ v (children n block b) ⊎ List·Memᴰ v b
@@ -123,27 +93,7 @@ module _ (n : ℕ) (block : ℕ → ℕ) (b : List ℕ) (v : ℕ) where
 
 -- ---- the order
 
--- each is smaller than all later ones
-abbrev pub Ascending : List ℕ → Type 0
-Ascending [] = Unit {0}
-Ascending (v ∷ vs) = ((w : ℕ) → List·Memᴰ w vs → v < w) × Ascending vs
-
--- a larger one at the end keeps a list ascending
-ascending-more : (vs : List ℕ) (x : ℕ) → Ascending vs → ((v : ℕ) → List·Memᴰ v vs → v < x) → Ascending (vs ++ (x ∷ []))
-ascending-more [] x a below = (λ w m. absurd (List·Memᴰ·not-nil m), tt)
-ascending-more (v ∷ vs) x a below =
-    (λ w m. ⊎-elim (λ (l : List·Memᴰ w vs). a .0 w l) (λ (r : List·Memᴰ w (x ∷ [])). let e : w ≡ x = List·Memᴰ·eq-of-singleton r in rw e (below v (List·Memᴰ·head refl))) (List·Memᴰ·append-cases vs m), ascending-more vs x (a .1) (λ w m. below w (List·Memᴰ·tail m)))
-
-candidates-ascend : (block : ℕ → ℕ) (b : List ℕ) (m : ℕ) → Ascending (candidates block b m)
-unfolding candidates pick
-candidates-ascend block b zero = tt
-candidates-ascend block b (suc m) = go (mayFollow block b (suc m)) (candidates-ascend block b m)
-  where
-    go : (t : Bool) → Ascending (candidates block b m) → Ascending (pick t (candidates block b m ++ (suc m ∷ [])) (candidates block b m))
-    go true a = ascending-more (candidates block b m) (suc m) a (λ v k. omega (arith, candidate block b m v k .1))
-    go false a = a
-
 -- the children stand by rising number
 pub children-ascend : (n : ℕ) (block : ℕ → ℕ) (b : List ℕ) → Ascending (children n block b)
 unfolding children
-children-ascend n block b = candidates-ascend block b n
+children-ascend n block b = chosen-ascend (mayFollow block b) n

@@ -1,10 +1,13 @@
--- The definitions computed at small orders, where every beginning is open.
+-- The definitions computed at small orders: the counts of the rules' worked graphs in which no beginning is lost.
 use Prim.Native.Nat.{ℕ}
 use mathlib.Core.Path.{_≡_, refl}
-use mathlib.Core.List.{List, [], _∷_, _++_, flatMap}
+use mathlib.Core.List.{List, [], _∷_, flatMap}
+use lib.Dec.{eqb}
 use Rattle.laws.specs.Test.{both, pick}
-use Rattle.beginnings.specs.Beginning.{absent, mayFollow, candidates, children}
-use Rattle.beginnings.specs.Search.{Judgement, won, lost, «open», whereOpen, unlessWon, subtree, subtrees, reached, throughWon, needed, stepsNeeded, cut, none, first, onWon, tryAll, searched}
+use Rattle.laws.specs.Chosen.{chosenUpTo}
+use Rattle.beginnings.specs.Beginning.{absent, mayFollow, children}
+use Rattle.beginnings.specs.Search.{Judgement, won, «open», whereOpen, subtree, subtrees, reached, cut, none, first, onWon, tryAll, searched}
+use Rattle.beginnings.specs.Certificate.{withFirst, completed}
 
 allOpen : List ℕ → Judgement
 allOpen b = «open»
@@ -14,19 +17,31 @@ oneBlock v = 1
 
 -- order 3 in one block: 3 + 6 + 6 beginnings
 fifteen : searched 3 oneBlock allOpen 15 ≡ none 15
-unfolding allOpen oneBlock absent mayFollow candidates children both pick flatMap whereOpen subtree subtrees reached onWon tryAll searched
+unfolding allOpen oneBlock absent mayFollow chosenUpTo children both pick flatMap whereOpen subtree subtrees reached onWon tryAll searched
 fifteen = refl
 
-fiftysix : searched 5 oneBlock allOpen 500 ≡ none 325
-unfolding allOpen oneBlock absent mayFollow candidates children both pick flatMap whereOpen subtree subtrees reached onWon tryAll searched
-fiftysix = refl
+-- one less is cut
+fourteen : searched 3 oneBlock allOpen 14 ≡ cut
+unfolding allOpen oneBlock absent mayFollow chosenUpTo children both pick flatMap whereOpen subtree subtrees reached onWon tryAll searched
+fourteen = refl
 
--- one short of that is cut
-short : searched 3 oneBlock allOpen 14 ≡ cut
-unfolding allOpen oneBlock absent mayFollow candidates children both pick flatMap whereOpen subtree subtrees reached onWon tryAll searched
-short = refl
-
--- three blocks leave one arrangement: 3 steps
+-- three blocks leave one beginning of each length
 three : searched 3 (λ v. v) allOpen 15 ≡ none 3
-unfolding allOpen absent mayFollow candidates children both pick flatMap whereOpen subtree subtrees reached onWon tryAll searched
+unfolding allOpen absent mayFollow chosenUpTo children both pick flatMap whereOpen subtree subtrees reached onWon tryAll searched
 three = refl
+
+-- won at 1, 3 alone: it is the fourth beginning, after 1 and 1, 2 and 1, 2, 3
+atOneThree : List ℕ → Judgement
+atOneThree [] = «open»
+atOneThree (v ∷ []) = «open»
+atOneThree (v ∷ w ∷ []) = pick (both (eqb v 1) (eqb w 3)) won «open»
+atOneThree (v ∷ w ∷ x ∷ b) = «open»
+
+fourth : searched 3 oneBlock atOneThree 4 ≡ first (1 ∷ 3 ∷ []) 4
+unfolding atOneThree oneBlock absent mayFollow chosenUpTo children both pick flatMap whereOpen subtree subtrees reached onWon tryAll searched
+fourth = refl
+
+-- and 1, 3, 2 completes it
+filled : completed 3 oneBlock 1 (1 ∷ 3 ∷ []) ≡ 1 ∷ 3 ∷ 2 ∷ []
+unfolding oneBlock absent mayFollow chosenUpTo children both pick withFirst completed
+filled = refl

@@ -6,10 +6,11 @@ use mathlib.Core.Logic.{_⊎_, inl, inr, ⊎-elim}
 use mathlib.Core.List.{List, [], _∷_, _++_, append-nil, flatMap, List·Memᴰ, List·Memᴰ·head, List·Memᴰ·tail, List·Memᴰ·not-nil, List·Memᴰ·cases-cons, List·Memᴰ·append-cases, List·Memᴰ·eq-of-singleton, Memᴰ·append-left, Memᴰ·append-right, Memᴰ·cast}
 use lib.ListN.{length}
 use lib.Seq.{append-snoc}
+use Rattle.laws.specs.Chosen.{Ascending}
 use Rattle.beginnings.specs.Beginning.{children}
 use Rattle.beginnings.specs.Search.{Judgement, won, lost, «open», whereOpen, subtree, subtrees}
 use Rattle.beginnings.specs.Order.{Before, Rising}
-use Rattle.beginnings.proofs.Children.{Child, child-of-mem, mem-of-child, Ascending, children-ascend}
+use Rattle.beginnings.proofs.Children.{Child, child-of-mem, mem-of-child, children-ascend}
 use Rattle.beginnings.proofs.Order.{before-append, before-extension, rising-append}
 
 module _ (n : ℕ) (block : ℕ → ℕ) (judged : List ℕ → Judgement) where

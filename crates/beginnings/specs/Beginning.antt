@@ -1,12 +1,13 @@
 -- Beginnings of arrangements of 1..n, and the vertices that may come next. Place i of a list holds its element i - 1.
-use Prim.Native.Nat.{ℕ, zero, suc, _-_, _≤_, _<_}
+use Prim.Native.Nat.{ℕ, suc, _-_, _≤_, _<_}
 use mathlib.Core.Path.{_≡_}
 use mathlib.Core.Logic.{_≢_}
 use mathlib.Core.Bool.{Bool, true, not}
-use mathlib.Core.List.{List, [], _∷_, _++_}
+use mathlib.Core.List.{List, [], _∷_}
 use lib.ListN.{length, getD}
 use lib.Dec.{eqb}
-use Rattle.laws.specs.Test.{both, pick}
+use Rattle.laws.specs.Test.{both}
+use Rattle.laws.specs.Chosen.{chosenUpTo}
 
 -- the vertex at place i
 abbrev pub at : List ℕ → ℕ → ℕ
@@ -32,13 +33,6 @@ absent (w ∷ b) v =
 unfoldable pub mayFollow : (ℕ → ℕ) → List ℕ → ℕ → Bool
 mayFollow block b v = both (absent b v) (eqb (block v) (block (suc (length b))))
 
--- those of 1..m that may follow b, by rising number
-unfoldable pub candidates : (ℕ → ℕ) → List ℕ → ℕ → List ℕ
-candidates block b zero = []
-candidates block b (suc m) =
-    let before = candidates block b m in
-    pick (mayFollow block b (suc m)) (before ++ (suc m ∷ [])) before
-
 -- the vertices that may follow b, by rising number
 unfoldable pub children : ℕ → (ℕ → ℕ) → List ℕ → List ℕ
-children n block b = candidates block b n
+children n block b = chosenUpTo (mayFollow block b) n

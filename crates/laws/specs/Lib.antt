@@ -1,3 +1,4 @@
 pub mod Test
 pub mod Bit
 pub mod UpTo
+pub mod Chosen
