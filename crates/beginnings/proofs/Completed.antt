@@ -4,7 +4,7 @@ use native.Mathlib.Omega.{arith}
 use mathlib.Core.Path.{_≡_, refl, sym, _∙_}
 use mathlib.Core.Logic.{_⊎_, inl, inr, ⊎-elim}
 use mathlib.Core.List.{List, [], _∷_, _++_, append-nil, List·Memᴰ, List·Memᴰ·head, List·Memᴰ·cases-cons}
-use lib.ListN.{length, getD, length-append}
+use lib.ListN.{length, length-append}
 use lib.Seq.{append-snoc}
 use Rattle.beginnings.specs.Beginning.{Beginning, children}
 use Rattle.beginnings.specs.Certificate.{withFirst, completed}
@@ -16,11 +16,12 @@ use Rattle.beginnings.proofs.Order.{before-append}
 
 module _ (n : ℕ) (block : ℕ → ℕ) where
   -- the first child, where the children are known
-  first-child : (b : List ℕ) (v : ℕ) (vs : List ℕ) → children n block b ≡ v ∷ vs → withFirst n block b ≡ b ++ (v ∷ [])
+  pub first-child : (b : List ℕ) (v : ℕ) (vs : List ℕ) → children n block b ≡ v ∷ vs → withFirst n block b ≡ b ++ (v ∷ [])
   unfolding withFirst
   first-child b v vs e = rw e
 
-  completed-none : (b : List ℕ) → completed n block 0 b ≡ b
+  -- with no place left b is complete
+  pub completed-none : (b : List ℕ) → completed n block 0 b ≡ b
   unfolding completed
   completed-none b = refl
 

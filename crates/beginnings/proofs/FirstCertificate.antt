@@ -1,20 +1,19 @@
 -- The search finds the first certificate: where won and lost stay with the arrangements that extend a beginning, the first won beginning, completed, is the certificate that comes first in dictionary order.
-use Prim.Native.Nat.{ℕ, zero, suc, _+_, _-_, _≤_, _<_}
+use Prim.Native.Nat.{ℕ, _-_, _≤_}
 use native.Mathlib.Omega.{arith}
 use mathlib.Core.Path.{_≡_, refl, sym, _∙_, ap}
-use mathlib.Core.Logic.{_⊎_, inl, inr, _≢_, _↔_, ⊎-elim}
+use mathlib.Core.Logic.{_⊎_, inl, inr, _≢_, ⊎-elim}
 use mathlib.Core.List.{List, [], _∷_, _++_, append-nil, List·Memᴰ, List·Memᴰ·head, List·Memᴰ·cases-cons, List·Memᴰ·append-cases, Memᴰ·append-right}
-use lib.ListN.{length, take, length-append}
+use lib.ListN.{length, length-append}
 use lib.Seq.{append-snoc, take-append-seam}
-use Rattle.beginnings.specs.Beginning.{Beginning}
-use Rattle.beginnings.specs.Order.{Before, Rising}
-use Rattle.beginnings.specs.Search.{Judgement, won, lost, «open», IsReached, NoneWon, FirstWon, reached, stepsNeeded, Found, cut, none, first, searched}
+use Rattle.beginnings.specs.Order.{Before}
+use Rattle.beginnings.specs.Search.{Judgement, won, lost, «open», IsReached, NoneWon, FirstWon, reached, stepsNeeded, none, first, searched}
 use Rattle.beginnings.specs.Certificate.{Certificate, Stays, completed}
-use Rattle.beginnings.proofs.Order.{before-how, rising-end}
+use Rattle.beginnings.proofs.Order.{before-irrefl, before-trans, before-how, rising-end}
 use Rattle.beginnings.proofs.Follows.{Follows, beginning-follows}
 use Rattle.beginnings.proofs.Subtree.{Reaches}
 use Rattle.beginnings.proofs.Reached.{is-reached, reached-sound, reached-complete, reached-rises}
-use Rattle.beginnings.proofs.Completed.{Completion, completed-whole, completed-least}
+use Rattle.beginnings.proofs.Completed.{completed-whole, completed-least}
 use Rattle.beginnings.proofs.Count.{none-or-first}
 use Rattle.beginnings.proofs.Steps.{within-none, within-first, none-exactly, first-exactly}
 
@@ -64,6 +63,19 @@ module _ (n : ℕ) (block : ℕ → ℕ) (judged : List ℕ → Judgement) where
   -- it is reached
   first-reached : (b : List ℕ) → FirstWon judged (reached n block judged) b → IsReached n block judged b
   first-reached b f = reached-sound n block judged b (rw (f .split) (Memᴰ·append-right (f .before) (List·Memᴰ·head refl)))
+
+  -- what the search finds is reached and won
+  pub found-reached : (budget : ℕ) (b : List ℕ) (s : ℕ) → searched n block judged budget ≡ first b s → IsReached n block judged b × (judged b ≡ won)
+  found-reached budget b s e = let f = first-exactly n block judged budget b s .0 e .2 in (first-reached b f, f .wins)
+
+  -- two certificates that no other comes before are one
+  pub first-unique : (p q : List ℕ) → Certificate n block judged p → Certificate n block judged q → ((r : List ℕ) → Certificate n block judged r → (r ≡ p) ⊎ Before p r) → ((r : List ℕ) → Certificate n block judged r → (r ≡ q) ⊎ Before q r) → p ≡ q
+  first-unique p q k l f g = go (f q l) (g p k)
+    where
+      go : (q ≡ p) ⊎ Before p q → (p ≡ q) ⊎ Before q p → p ≡ q
+      go (inl e) y = sym e
+      go (inr h) (inl e) = e
+      go (inr h) (inr i) = absurd (before-irrefl p (before-trans p q p h i))
 
   module _ (won-stays : Stays n block judged won) (lost-stays : Stays n block judged lost) where
     -- ---- a certificate has a reached and won beginning

@@ -1,5 +1,5 @@
 -- A search as a loop: what remains to be visited from a path, and one equation for each way round.
-use Prim.Native.Nat.{ℕ, zero, suc, _-_, _≤_, _<_}
+use Prim.Native.Nat.{ℕ, suc, _-_, _≤_, _<_}
 use native.Mathlib.Omega.{arith}
 use mathlib.Core.Path.{_≡_, refl, sym, _∙_, ap}
 use mathlib.Core.Logic.{_≢_}
@@ -7,10 +7,10 @@ use mathlib.Core.List.{List, [], _∷_, _++_, append-nil, append-assoc}
 use lib.ListN.{length, take}
 use lib.Seq.{length-take-le, take-take, take-append-seam}
 use Rattle.beginnings.specs.Beginning.{children}
-use Rattle.beginnings.specs.Search.{Judgement, won, lost, «open», subtree, subtrees, reached, cut, none, first, tryAll}
+use Rattle.beginnings.specs.Search.{Judgement, won, lost, «open», subtree, subtrees, reached, cut, none, first, tryAll, searched}
 use Rattle.beginnings.specs.Remaining.{shorter, remaining}
 use Rattle.beginnings.proofs.Follows.{length-more}
-use Rattle.beginnings.proofs.Subtree.{subtree-full, subtree-won, subtree-lost, subtree-open, subtree-root, subtrees-none, subtrees-more}
+use Rattle.beginnings.proofs.Subtree.{subtree-full, subtree-lost, subtree-open, subtree-root, subtrees-none, subtrees-more}
 use Rattle.beginnings.proofs.Count.{try-none, try-cut, try-won, try-past}
 
 -- a path less the vertex that was put on it
@@ -86,6 +86,11 @@ module _ (n : ℕ) (block : ℕ → ℕ) (judged : List ℕ → Judgement) where
         below = remaining-at (b ++ (v ∷ [])) (children n block (b ++ (v ∷ []))) (vs ∷ untried) ∙ ap (λ (p : List ℕ). subtrees n block judged (n - length (b ++ (v ∷ [])) - 1) (b ++ (v ∷ [])) (children n block (b ++ (v ∷ []))) ++ remaining n block judged p (vs ∷ untried)) (shorter-more b v)
 
   -- ---- the ways round, from the counter
+
+  -- the search begins with the vertices that may stand at place 1
+  pub loop-begins : (budget : ℕ) → tryAll judged (remaining n block judged [] (children n block [] ∷ [])) 0 budget ≡ searched n block judged budget
+  unfolding searched
+  loop-begins budget = rw remaining-start refl
 
   -- with no depth left the search is over
   pub loop-over : (b : List ℕ) (steps budget : ℕ) → tryAll judged (remaining n block judged b []) steps budget ≡ none steps

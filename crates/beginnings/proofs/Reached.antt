@@ -1,17 +1,17 @@
 -- The list of reached beginnings holds exactly those that the rules call reached, in dictionary order, and no other list does.
 use Prim.Native.Nat.{ℕ, zero, suc, _-_, _≤_, _<_}
 use native.Mathlib.Omega.{arith}
-use mathlib.Core.Path.{_≡_, refl, sym, _∙_, ap}
+use mathlib.Core.Path.{_≡_}
 use mathlib.Core.Logic.{_↔_, Iff·trans, Iff·symm}
 use mathlib.Core.List.{List, [], _∷_, _++_, append-nil, List·Memᴰ}
 use lib.ListN.{length, take}
 use lib.Seq.{append-snoc}
-use Rattle.beginnings.specs.Beginning.{Beginning, children}
-use Rattle.beginnings.specs.Search.{Judgement, «open», IsReached, subtree, subtrees, reached}
+use Rattle.beginnings.specs.Beginning.{children}
+use Rattle.beginnings.specs.Search.{Judgement, «open», IsReached, reached}
 use Rattle.beginnings.specs.Order.{Rising}
 use Rattle.beginnings.proofs.Children.{Child, child-of-mem, mem-of-child, children-ascend}
 use Rattle.beginnings.proofs.Follows.{Follows, beginning-follows, beginning-of}
-use Rattle.beginnings.proofs.Subtree.{Reaches, Below, from-subtrees, into-subtrees, from-subtree, into-subtree, subtrees-rise, subtree-rises}
+use Rattle.beginnings.proofs.Subtree.{Reaches, from-subtrees, into-subtrees, from-subtree, into-subtree, subtrees-rise, subtree-rises}
 use Rattle.beginnings.proofs.Order.{rising-unique}
 
 module _ (n : ℕ) (block : ℕ → ℕ) (judged : List ℕ → Judgement) where

@@ -2,12 +2,11 @@
 use Prim.Native.Nat.{ℕ, suc, _+_, _-_, _≤_, _<_, min}
 use native.Mathlib.Omega.{arith}
 use native.Mathlib.Decide.{decLe}
-use mathlib.Core.Path.{_≡_, refl, sym, _∙_, ap}
+use mathlib.Core.Path.{_≡_, sym, _∙_, ap}
 use mathlib.Core.Logic.{_⊎_, inl, inr, _≢_, _↔_, ⊎-elim}
 use mathlib.Core.List.{List, [], _∷_, _++_}
 use lib.ListN.{length, length-append}
-use Rattle.beginnings.specs.Beginning.{children}
-use Rattle.beginnings.specs.Search.{Judgement, won, NoneWon, FirstWon, throughWon, subtrees, reached, needed, stepsNeeded, Found, cut, none, first, told, searched}
+use Rattle.beginnings.specs.Search.{Judgement, won, NoneWon, FirstWon, throughWon, subtrees, reached, needed, stepsNeeded, cut, none, first, told, searched}
 use Rattle.beginnings.proofs.Completed.{first-exists}
 use Rattle.beginnings.proofs.Subtree.{subtrees-more, subtree-root}
 use Rattle.beginnings.proofs.Count.{none-or-first, through-none, through-first, first-of-last, try-all, try-first, try-short, through-some}

@@ -1,8 +1,8 @@
 -- Subtrees unrolled, one equation for each case, and what their members are.
-use Prim.Native.Nat.{ℕ, zero, suc, _≤_, _<_}
+use Prim.Native.Nat.{ℕ, zero, suc, _≤_}
 use native.Mathlib.Omega.{arith}
 use mathlib.Core.Path.{_≡_, refl, sym, _∙_}
-use mathlib.Core.Logic.{_⊎_, inl, inr, ⊎-elim}
+use mathlib.Core.Logic.{inl, ⊎-elim}
 use mathlib.Core.List.{List, [], _∷_, _++_, append-nil, flatMap, List·Memᴰ, List·Memᴰ·head, List·Memᴰ·tail, List·Memᴰ·not-nil, List·Memᴰ·cases-cons, List·Memᴰ·append-cases, List·Memᴰ·eq-of-singleton, Memᴰ·append-left, Memᴰ·append-right, Memᴰ·cast}
 use lib.ListN.{length}
 use lib.Seq.{append-snoc}
@@ -136,9 +136,10 @@ module _ (n : ℕ) (block : ℕ → ℕ) (judged : List ℕ → Judgement) where
       go won e each = rw (subtree-won (suc left) p e) (λ c m. absurd (List·Memᴰ·not-nil m), tt)
       go lost e each = rw (subtree-lost (suc left) p e) (λ c m. absurd (List·Memᴰ·not-nil m), tt)
       go «open» e each =
-          rw (subtree-open left p e)
-          (λ x m.
-          let s = from-subtrees left p (children n block p) x m in
-          let t = from-subtree left (p ++ (s .0 ∷ [])) x (s .2) in
-          rw (t .joined ∙ append-snoc p (s .0) (t .part)) (before-extension p (s .0) (t .part)),
-          subtrees-rise left p (children n block p) (children-ascend n block p) each)
+          rw (subtree-open left p e) (
+            λ x m.
+                let s = from-subtrees left p (children n block p) x m in
+                let t = from-subtree left (p ++ (s .0 ∷ [])) x (s .2) in
+                rw (t .joined ∙ append-snoc p (s .0) (t .part)) (before-extension p (s .0) (t .part)),
+            subtrees-rise left p (children n block p) (children-ascend n block p) each,
+          )
