@@ -38,11 +38,11 @@ module _ (block : ℕ → ℕ) (b : List ℕ) (v : ℕ) where
   -- what may follow is no member
   may-new : mayFollow block b v ≡ true → List·Memᴰ v b → ⊥
   unfolding mayFollow both
-  may-new = go (absent b v) refl
+  may-new = go (absent b v) (eqb (block v) (block (suc (length b)))) refl
     where
-      go : (t : Bool) → absent b v ≡ t → both t (eqb (block v) (block (suc (length b)))) ≡ true → List·Memᴰ v b → ⊥
-      go true q s m = absent-true b v q m
-      go false q s m = false≢true s
+      go : (t u : Bool) → absent b v ≡ t → both t u ≡ true → List·Memᴰ v b → ⊥
+      go true u q s m = absent-true b v q m
+      go false u q s m = false≢true s
 
   -- and lies in the block of the next place
   may-block : mayFollow block b v ≡ true → block v ≡ block (suc (length b))
@@ -72,13 +72,14 @@ pub record Child (n : ℕ) (block : ℕ → ℕ) (b : List ℕ) (v : ℕ) : Type
   pub in-block : block v ≡ block (suc (length b))
 
 module _ (n : ℕ) (block : ℕ → ℕ) (b : List ℕ) (v : ℕ) where
-  -- the members of the children are these
+  -- each member of the children is one
   pub child-of-mem : List·Memᴰ v (children n block b) → Child n block b v
   unfolding children
   child-of-mem m =
       let c = chosen-fits (mayFollow block b) n v m in
       record { low = c .0; high = c .1; new = may-new block b v (c .2); in-block = may-block block b v (c .2) }
 
+  -- and each such vertex is a member
   pub mem-of-child : Child n block b v → List·Memᴰ v (children n block b)
   unfolding children
   mem-of-child c = is-chosen (mayFollow block b) n v (c .low) (c .high) (may-follow block b v (c .new) (c .in-block))

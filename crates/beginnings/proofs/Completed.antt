@@ -80,20 +80,22 @@ module _ (n : ℕ) (block : ℕ → ℕ) where
 
   -- ---- of beginnings
 
-  -- a beginning shorter than n has a child, and so has the empty list
+  -- a beginning shorter than n has a child
   pub child-exists : (b : List ℕ) → Beginning n block b → length b < n → (v : ℕ) × (vs : List ℕ) × (children n block b ≡ v ∷ vs)
   child-exists b h = has-child n block b (beginning-follows n block b h)
 
+  -- and so has the empty list
   pub first-exists : 1 ≤ n → (v : ℕ) × (vs : List ℕ) × (children n block [] ≡ v ∷ vs)
   first-exists h = has-child n block [] tt h
 
-  -- the completion of b is an arrangement that extends b
+  -- p is an arrangement that extends b
   pub record Completion (b p : List ℕ) : Type 0 where
     pub beginning : Beginning n block p
     pub whole : length p ≡ n
     pub part : List ℕ
     pub extends : p ≡ b ++ part
 
+  -- b completed is one
   pub completed-whole : (b : List ℕ) → Beginning n block b → Completion b (completed n block (n - length b) b)
   completed-whole b h =
       let f = beginning-follows n block b h in

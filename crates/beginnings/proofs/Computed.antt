@@ -1,4 +1,4 @@
--- The definitions computed at small orders: the counts of the rules' worked graphs in which no beginning is lost.
+-- The definitions computed at small orders.
 use Prim.Native.Nat.{ℕ}
 use mathlib.Core.Path.{_≡_, refl}
 use mathlib.Core.List.{List, [], _∷_, flatMap}

@@ -69,6 +69,7 @@ module _ (n : ℕ) (block : ℕ → ℕ) (judged : List ℕ → Judgement) where
       (λ (r : List·Memᴰ x (subtrees n block judged left p vs)). let s = from-subtrees left p vs x r in (s .0, List·Memᴰ·tail (s .1), s .2))
       (List·Memᴰ·append-cases (subtree n block judged left (p ++ (v ∷ []))) (rw subtrees-more at m))
 
+  -- a member of one of them is a member of them
   pub into-subtrees : (left : ℕ) (p vs x : List ℕ) (v : ℕ) → List·Memᴰ v vs → List·Memᴰ x (subtree n block judged left (p ++ (v ∷ []))) → List·Memᴰ x (subtrees n block judged left p vs)
   into-subtrees left p [] x v k m = absurd (List·Memᴰ·not-nil k)
   into-subtrees left p (w ∷ vs) x v k m =

@@ -1,4 +1,4 @@
--- Those of 1..n that pass a test, by rising number.
+-- The numbers that a test chooses from 1..n.
 use Prim.Native.Nat.{ℕ, zero, suc, _≤_, _<_}
 use native.Mathlib.Omega.{arith}
 use native.Mathlib.Nat.{le-suc-iff}
@@ -8,6 +8,7 @@ use mathlib.Core.Bool.{Bool, true, false, false≢true}
 use mathlib.Core.List.{List, [], _∷_, _++_, append-assoc, List·Memᴰ, List·Memᴰ·head, List·Memᴰ·tail, List·Memᴰ·not-nil, List·Memᴰ·append-cases, List·Memᴰ·eq-of-singleton, Memᴰ·append-left, Memᴰ·append-right}
 use Rattle.laws.specs.Test.{pick}
 
+-- those of 1..n that pass the test, by rising number
 unfoldable pub chosenUpTo : (ℕ → Bool) → ℕ → List ℕ
 chosenUpTo f zero = []
 chosenUpTo f (suc n) =
