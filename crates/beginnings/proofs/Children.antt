@@ -38,7 +38,7 @@ module _ (block : ℕ → ℕ) (b : List ℕ) (v : ℕ) where
   -- what may follow is no member
   may-new : mayFollow block b v ≡ true → List·Memᴰ v b → ⊥
   unfolding mayFollow both
-  may-new = go (absent b v) (eqb (block v) (block (suc (length b)))) refl
+  may-new = go (absent b v) _ refl
     where
       go : (t u : Bool) → absent b v ≡ t → both t u ≡ true → List·Memᴰ v b → ⊥
       go true u q s m = absent-true b v q m
