@@ -10,3 +10,4 @@ pub mod ListLaws
 pub mod Pigeonhole
 pub mod SumLaws
 pub mod Each
+pub mod Chosen
