@@ -1,5 +1,5 @@
 -- A graph drawn from a table of entries has these entries and is well formed, and every well-formed graph is drawn from its own.
-use Prim.Native.Nat.{ℕ, _+_, _-_, _*_, _/_, _%_, _≤_, _<_}
+use Prim.Native.Nat.{ℕ, _-_, _/_, _%_, _≤_, _<_}
 use mathlib.Core.Path.{_≡_, sym, ap, ap₂, _∙_}
 use mathlib.Core.List.{List}
 use native.Mathlib.Omega.{arith}
@@ -8,7 +8,7 @@ use Rattle.laws.specs.BitLaws.{bit-of-zero}
 use Rattle.laws.specs.UpTo.{wordUpTo}
 use Rattle.laws.specs.UpToLaws.{word-bit, word-past, word-same, word-of-bits}
 use Rattle.graph.specs.declared.Graph.{Graph}
-use Rattle.graph.specs.Graph.{row, entry, placed, mirrored, drawn, startAt}
+use Rattle.graph.specs.Graph.{row, entry, mirrored, drawn, startAt}
 use Rattle.graph.specs.WellFormed.{WellFormed}
 use Rattle.graph.proofs.Placed.{placed-length, placed-at, placed-past, placed-same, placed-of}
 use Rattle.graph.proofs.Mirrored.{mirrored-loop, mirrored-symmetric, mirrored-small, mirrored-itself, mirrored-same}
@@ -23,11 +23,12 @@ abbrev pub unknownRow : (ℕ → ℕ → ℕ) → ℕ → ℕ → ℕ
 unknownRow e n i = wordUpTo (λ j. mirrored e i j / 2) n
 
 module _ (n starts : ℕ) (e : ℕ → ℕ → ℕ) where
-  -- row i of the graph drawn
+  -- row i of its edges
   pub drawn-edges : (i : ℕ) → 1 ≤ i → i ≤ n → row (drawn n starts e .edges) i ≡ edgeRow e n i
   unfolding drawn
   drawn-edges i l h = placed-at (edgeRow e n) n i l h
 
+  -- row i of its unknowns
   pub drawn-unknowns : (i : ℕ) → 1 ≤ i → i ≤ n → row (drawn n starts e .unknowns) i ≡ unknownRow e n i
   unfolding drawn
   drawn-unknowns i l h = placed-at (unknownRow e n) n i l h

@@ -1,16 +1,15 @@
 -- The test `wellFormed` holds of a graph exactly where it is well formed.
-use Prim.Native.Nat.{ℕ, _+_, _-_, _*_, _^_, _≤_, _<_}
-use mathlib.Core.Path.{_≡_, refl, sym, ap, _∙_}
-use mathlib.Core.Bool.{Bool, true, false}
+use Prim.Native.Nat.{ℕ, _-_, _^_, _≤_, _<_}
+use mathlib.Core.Path.{_≡_, sym}
+use mathlib.Core.Bool.{true, false}
 use native.Mathlib.Omega.{arith}
 use lib.ListN.{length, List·getD-eq-default}
-use lib.Dec.{leb, ltb, eqb}
+use lib.Dec.{leb}
 use borrow.Author.Tests.{ltb-true, leb-true, eqb-true, lt-ltb, le-leb, lt-leb, eq-eqb}
 use Rattle.laws.specs.Compared.{by-below, by-order}
-use Rattle.laws.specs.Test.{both, pick}
+use Rattle.laws.specs.Test.{pick}
 use Rattle.laws.specs.TestLaws.{both-first, both-second, both-hold, pick-true, pick-false, not-both-ways}
 use Rattle.laws.specs.BitLaws.{bits-past, bit-of-zero}
-use Rattle.laws.specs.UpTo.{allUpTo}
 use Rattle.laws.specs.UpToLaws.{all-at, all-hold}
 use Rattle.graph.specs.declared.Graph.{Graph}
 use Rattle.graph.specs.Graph.{row, entry, startAt}
@@ -24,6 +23,7 @@ pub order-in-range : (n : ℕ) → orderFits n ≡ true → (1 ≤ n) × (n ≤ 
 unfolding orderFits
 order-in-range n t = (leb-true 1 n (both-first _ _ t), leb-true n 32 (both-second _ _ t))
 
+-- an order in range passes the test
 pub order-tested : (n : ℕ) → 1 ≤ n → n ≤ 32 → orderFits n ≡ true
 unfolding orderFits
 order-tested n low high = both-hold _ _ (le-leb 1 n low) (le-leb n 32 high)

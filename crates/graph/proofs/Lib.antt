@@ -7,3 +7,9 @@ pub mod Drawn
 pub mod Formed
 pub mod Permits
 pub mod OrderLaws
+pub mod CodePlaces
+pub mod CodeAnswers
+pub mod Settings
+pub mod Relabelling
+pub mod Composing
+pub mod CountLaws

@@ -3,8 +3,8 @@ use Prim.Native.Nat.{ℕ, zero, suc, _+_, _-_, _≤_, _<_}
 use native.Mathlib.Nat.{eq-or-lt-of-le}
 use native.Mathlib.Omega.{arith}
 use mathlib.Core.Path.{_≡_, refl, sym, ap, ap₂, subst, subst₂, _∙_}
-use mathlib.Core.Logic.{_⊎_, inl, inr, _↔_, ⊎-elim, Iff·rfl, Iff·trans}
-use mathlib.Core.List.{List, [], _∷_, _++_, map, List·Memᴰ, List·Memᴰ·head, List·Memᴰ·tail, List·Memᴰ·cases-cons, List·Memᴰ·not-nil, append-assoc, head-eq-of-cons-eq, tail-eq-of-cons-eq}
+use mathlib.Core.Logic.{inl, inr, _↔_, ⊎-elim, Iff·rfl, Iff·trans}
+use mathlib.Core.List.{List, [], _∷_, _++_, map, List·Memᴰ, List·Memᴰ·head, List·Memᴰ·tail, List·Memᴰ·cases-cons, List·Memᴰ·not-nil, append-assoc}
 use Rattle.laws.specs.UpTo.{listUpTo}
 use Rattle.laws.specs.ListLaws.{map-append}
 use Rattle.graph.specs.declared.Graph.{Graph}
@@ -12,7 +12,7 @@ use Rattle.graph.specs.Graph.{entry}
 use Rattle.graph.specs.WellFormed.{WellFormed, FullyDrawn}
 use Rattle.graph.specs.Pairs.{Pair, pair, alongRow, fromRow, pairs, entryAt}
 use Rattle.graph.specs.Order.{Earlier, EarlierGraph, rowsJoined, matrixWord, LexLess}
-use Rattle.graph.proofs.PairLaws.{alongRow-append, fromRow-split, along-given, along-has}
+use Rattle.graph.proofs.PairLaws.{Mirrored, entryOf, alongRow-append, fromRow-split, along-given, along-has}
 
 module _ (x y : Pair → ℕ) where
   -- x read along ks is a smaller word than y
@@ -82,10 +82,6 @@ module _ (x y : Pair → ℕ) where
 
 -- ---- matrices
 
--- the entry of the matrix a at a pair
-abbrev entryOf : (ℕ → ℕ → ℕ) → Pair → ℕ
-entryOf a k = a (k .row) (k .column)
-
 -- the cells of m rows from row i on, of n columns each
 cells : ℕ → ℕ → ℕ → List Pair
 cells n i zero = []
@@ -109,11 +105,6 @@ unfolding rowsJoined cells
 rows-word a n i zero = refl
 rows-word a n i (suc m) =
     ap₂ _++_ (row-word a i n) (rows-word a n (suc i) m) ∙ sym (map-append (entryOf a) (alongRow i 1 n) (cells n (suc i) m))
-
--- a is symmetric with a zero diagonal
-pub record Mirrored (a : ℕ → ℕ → ℕ) : Type 0 where
-  pub symmetric : (i j : ℕ) → a i j ≡ a j i
-  pub diagonal : (i : ℕ) → a i i ≡ 0
 
 module _ (a b : ℕ → ℕ → ℕ) (a-mirrored : Mirrored a) (b-mirrored : Mirrored b) where
   -- a and b agree at each pair of 1..n of the rows before row i

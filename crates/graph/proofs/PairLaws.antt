@@ -1,6 +1,6 @@
 -- The pairs in row order: which they are, how many, the number of each, and the pairs from a given one on.
 use Prim.Native.Nat.{ℕ, zero, suc, _+_, _-_, _*_, _/_, _≤_, _<_}
-use native.Mathlib.Nat.{eq-or-lt-of-le, le-dest, le-of-lt, lt-of-lt-of-le}
+use native.Mathlib.Nat.{eq-or-lt-of-le, le-dest, le-of-lt, lt-of-lt-of-le, mul-le-mul}
 use native.Mathlib.Omega.{arith}
 use mathlib.Core.Path.{_≡_, refl, sym, ap, ap₂, subst, _∙_}
 use mathlib.Core.Logic.{_⊎_, inl, inr, ⊎-elim}
@@ -8,8 +8,19 @@ use mathlib.Core.List.{List, _∷_, _++_, map, append-assoc, List·Memᴰ, List�
 use lib.ListN.{length, getD, take, drop, length-append, length-drop, List·getD-map}
 use lib.Seq.{take-at, drop-append-le, drop-append-seam, drop-drop, getD-drop, getD-append-seam}
 use Rattle.laws.specs.UpTo.{listUpTo}
-use Rattle.laws.specs.ListLaws.{map-append, getD-mem, NoRepeats, no-repeats-of-map, countUp, countUp-append, countUp-getD, countUp-upTo, countUp-no-repeats}
+use Rattle.laws.specs.ListLaws.{map-append, getD-mem, mem-split, NoRepeats, no-repeats-of-map, countUp, countUp-append, countUp-getD, countUp-upTo, countUp-no-repeats}
 use Rattle.graph.specs.Pairs.{Pair, pair, alongRow, fromRow, pairs, pairCount, number, pairOf}
+
+-- ---- matrices
+
+-- a is symmetric with a zero diagonal
+pub record Mirrored (a : ℕ → ℕ → ℕ) : Type 0 where
+  pub symmetric : (i j : ℕ) → a i j ≡ a j i
+  pub diagonal : (i : ℕ) → a i i ≡ 0
+
+-- the entry of the matrix a at a pair
+abbrev pub entryOf : (ℕ → ℕ → ℕ) → Pair → ℕ
+entryOf a k = a (k .row) (k .column)
 
 -- ---- which pairs there are
 
@@ -85,6 +96,12 @@ pairCount-suc (suc m) =
     let a : suc (suc m) - 1 ≡ suc m = omega arith in
     let b : suc m - 1 ≡ m = omega arith in
     rw (a, b) (omega arith)
+
+-- more vertices have no fewer pairs
+pub pairCount-mono : (m n : ℕ) → m ≤ n → pairCount m ≤ pairCount n
+pairCount-mono m n h =
+    let less : m - 1 ≤ n - 1 = omega arith in
+    omega (arith, mul-le-mul h less)
 
 -- a row of m pairs has m pairs
 pub alongRow-length : (i j m : ℕ) → length (alongRow i j m) ≡ m
@@ -298,6 +315,14 @@ split-number n k before after e =
     ap₂ (λ (x : ℕ) (ks : List Pair). getD ks x (pair 0 0)) at e ∙ getD-append-seam before k after (pair 0 0) in
     let long : pairCount n ≡ length before + suc (length after) = sym (pairs-length n) ∙ ap length e ∙ length-append before (k ∷ after) in
     ap (numberOf n) (sym here) ∙ number-pairOf n (suc (length before)) (omega arith) (omega arith)
+
+-- and each pair before k has a smaller number
+pub before-smaller : (n : ℕ) (k : Pair) (before after : List Pair) → pairs n ≡ before ++ k ∷ after → (j : Pair) → List·Memᴰ j before → numberOf n j < numberOf n k
+before-smaller n k before after e j m =
+    let s = mem-split j before m in
+    let long : length before ≡ length (s .0) + suc (length (s .1)) = ap length (s .2) ∙ length-append (s .0) (j ∷ s .1) in
+    let whole : pairs n ≡ s .0 ++ j ∷ (s .1 ++ k ∷ after) = e ∙ ap (λ (l : List Pair). l ++ k ∷ after) (s .2) ∙ append-assoc (s .0) (j ∷ s .1) (k ∷ after) in
+    rw (split-number n k before after e, split-number n j (s .0) (s .1 ++ k ∷ after) whole) (omega arith)
 
 -- ---- row 1 is the start of row order
 

@@ -2,14 +2,14 @@
 use Prim.Native.Nat.{ℕ, _-_, _≤_, _<_}
 use mathlib.Core.Path.{_≡_, sym, _∙_}
 use mathlib.Core.Logic.{_≢_}
-use mathlib.Core.Bool.{Bool, true, false, not}
+use mathlib.Core.Bool.{true, false, not}
 use mathlib.Core.List.{List}
 use native.Mathlib.Omega.{arith}
 use lib.ListN.{length, List·getD-eq-default}
 use lib.Dec.{leb, eqb}
 use borrow.Author.Tests.{leb-true, eqb-true, eqb-false, not-true, le-leb, lt-leb, eq-eqb, ne-eqb}
 use Rattle.laws.specs.Compared.{by-below}
-use Rattle.laws.specs.Test.{both, pick}
+use Rattle.laws.specs.Test.{both}
 use Rattle.laws.specs.TestLaws.{both-first, both-second, both-hold, pick-true, pick-false, not-both-ways}
 use Rattle.laws.specs.UpToLaws.{all-at, all-hold}
 use Rattle.graph.specs.Graph.{blockOf}

@@ -1,7 +1,6 @@
 -- The rows of a well-formed graph, and what makes a graph well formed.
-use Prim.Native.Nat.{ℕ, zero, suc, _+_, _-_, _*_, _/_, _%_, _^_, _≤_, _<_}
+use Prim.Native.Nat.{ℕ, zero, suc, _-_, _/_, _%_, _^_, _≤_, _<_}
 use mathlib.Core.Path.{_≡_, sym, _∙_}
-use mathlib.Core.List.{List}
 use native.Mathlib.Omega.{arith}
 use lib.ListN.{length}
 use Rattle.laws.specs.Compared.{by-below, by-order}
@@ -9,7 +8,7 @@ use Rattle.laws.specs.Bit.{bit}
 use Rattle.laws.specs.BitLaws.{below-of-bits}
 use Rattle.graph.specs.declared.Graph.{Graph}
 use Rattle.graph.specs.Graph.{row, entry, startAt}
-use Rattle.graph.specs.WellFormed.{WellFormed}
+use Rattle.graph.specs.WellFormed.{WellFormed, FullyDrawn}
 
 -- an edge's bit is 1 where the entry is 1
 pub edge-bit : (g : Graph) (i j : ℕ) → bit (row (g .edges) i) (j - 1) ≡ entry g i j % 2
@@ -36,12 +35,13 @@ module _ (g : Graph) (w : WellFormed g) where
   pub unknowns-below : (i : ℕ) → row (g .unknowns) i < 2 ^ g .order
   unknowns-below i = below-of-vertices (row (g .unknowns) i) (g .order) (λ j h. omega (arith, w .none-past i j h))
 
-  -- the rows past the order are zero
+  -- the rows of edges past the order are zero
   pub edges-past : (i : ℕ) → g .order < i → row (g .edges) i ≡ 0
   edges-past i h =
       let none : row (g .edges) i < 2 ^ 0 = below-of-vertices (row (g .edges) i) 0 (λ j l. omega (arith, past-row i j h)) in
       omega arith
 
+  -- and so are those of unknowns
   pub unknowns-past : (i : ℕ) → g .order < i → row (g .unknowns) i ≡ 0
   unknowns-past i h =
       let none : row (g .unknowns) i < 2 ^ 0 = below-of-vertices (row (g .unknowns) i) 0 (λ j l. omega (arith, past-row i j h)) in
@@ -110,3 +110,20 @@ module _ (g : Graph) (low : 1 ≤ g .order) (high : g .order ≤ 32) (le : lengt
         first-starts = first;
         no-start-past = starts-past;
       }
+
+-- a well-formed graph with no unknown above the diagonal is fully drawn
+pub fully-drawn-by : (g : Graph) → WellFormed g → ((i j : ℕ) → 1 ≤ i → i < j → j ≤ g .order → entry g i j ≤ 1) → FullyDrawn g
+fully-drawn-by g w upper = record { known = known₀ }
+  where
+    known₁ : (i j : ℕ) → 1 ≤ i → 1 ≤ j → entry g i j ≤ 1
+    known₁ i j li lj =
+        by-order i j
+        (λ l. by-below (g .order) j (λ p. omega (arith, w .none-past i j p)) (λ h. upper i j li l h))
+        (λ e. rw e (omega (arith, w .no-loop j)))
+        (λ l. rw (w .symmetric i j) (by-below (g .order) i (λ p. omega (arith, w .none-past j i p)) (λ h. upper j i lj l h)))
+
+    known₀ : (i j : ℕ) → entry g i j ≤ 1
+    known₀ zero zero = known₁ 1 1 (omega arith) (omega arith)
+    known₀ zero (suc j) = known₁ 1 (suc j) (omega arith) (omega arith)
+    known₀ (suc i) zero = known₁ (suc i) 1 (omega arith) (omega arith)
+    known₀ (suc i) (suc j) = known₁ (suc i) (suc j) (omega arith) (omega arith)

@@ -25,7 +25,7 @@ isPair n i j = both (isVertex n i) (both (isVertex n j) (not (eqb i j)))
 
 -- ---- entries
 
-abbrev reading : ℕ → ℕ → Reading
+abbrev pub reading : ℕ → ℕ → Reading
 reading number value = record { refusal = number; place = 0; value = value }
 
 unfoldable pub readAnswer : Graph → ℕ → ℕ → Reading
@@ -34,25 +34,25 @@ readAnswer g i j =
     (unless (isPair (g .order) i j) (reading 7 0)
     (reading 0 (entry g i j)))
 
-abbrev change : ℕ → Graph → Change
-change number g = record { refusal = number; place = 0; graph = g }
+abbrev pub changed : ℕ → Graph → Change
+changed number g = record { refusal = number; place = 0; graph = g }
 
 unfoldable pub setAnswer : Graph → ℕ → ℕ → ℕ → Change
 setAnswer g i j value =
-    unless (wellFormed g) (change 8 g)
-    (unless (isPair (g .order) i j) (change 7 g)
-    (unless (leb value 2) (change 9 g)
-    (change 0 (withEntry g i j value))))
+    unless (wellFormed g) (changed 8 g)
+    (unless (isPair (g .order) i j) (changed 7 g)
+    (unless (leb value 2) (changed 9 g)
+    (changed 0 (withEntry g i j value))))
 
 -- ---- counts
 
-abbrev totals : ℕ → ℕ → ℕ → ℕ → Totals
+abbrev pub totals : ℕ → ℕ → ℕ → ℕ → Totals
 totals number e z u = record { refusal = number; place = 0; edges = e; «non_edges» = z; unknowns = u }
 
 unfoldable pub countAnswer : Graph → Totals
 countAnswer g = unless (wellFormed g) (totals 8 0 0 0) (totals 0 (pairsWith g 1) (pairsWith g 0) (pairsWith g 2))
 
-abbrev degree : ℕ → ℕ → Degree
+abbrev pub degree : ℕ → ℕ → Degree
 degree number e = record { refusal = number; place = 0; edges = e }
 
 unfoldable pub degreeAnswer : Graph → ℕ → Degree
@@ -66,11 +66,11 @@ noGraph = record { order = 0; edges = replicate 32 0; unknowns = replicate 32 0;
 
 unfoldable pub relabelAnswer : Graph → List ℕ → Change
 relabelAnswer g p =
-    unless (wellFormed g) (change 8 noGraph)
-    (unless (isPermitted (g .order) (g .starts) p) (change 11 noGraph)
-    (change 0 (relabelled g p)))
+    unless (wellFormed g) (changed 8 noGraph)
+    (unless (isPermitted (g .order) (g .starts) p) (changed 11 noGraph)
+    (changed 0 (relabelled g p)))
 
-abbrev arrangement : ℕ → ℕ → List ℕ → Arrangement
+abbrev pub arrangement : ℕ → ℕ → List ℕ → Arrangement
 arrangement number place vs = record { refusal = number; place = place; vertices = vs }
 
 unfoldable pub composeAnswer : ℕ → List ℕ → List ℕ → Arrangement

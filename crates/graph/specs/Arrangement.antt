@@ -32,7 +32,7 @@ pub record Permitted (n starts : ℕ) (p : List ℕ) : Type 0 where
 -- ---- the tests
 
 -- p(i) is none of p(1), .., p(i - 1)
-unfoldable pub differs : List ℕ → ℕ → ℕ → Bool
+abbrev pub differs : List ℕ → ℕ → ℕ → Bool
 differs p i j = not (eqb (at p j) (at p i))
 
 unfoldable pub isNew : List ℕ → ℕ → Bool
@@ -66,7 +66,7 @@ unfoldable pub relabelled : Graph → List ℕ → Graph
 relabelled g p = drawn (g .order) (g .starts) (λ i j. entry g (at p i) (at p j))
 
 -- p composed with q puts p(q(i)) at i
-unfoldable pub through : List ℕ → List ℕ → ℕ → ℕ
+abbrev pub through : List ℕ → List ℕ → ℕ → ℕ
 through p q i = at p (at q i)
 
 unfoldable pub composed : ℕ → List ℕ → List ℕ → List ℕ

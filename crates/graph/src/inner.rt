@@ -4,10 +4,11 @@ ghost use mathlib.Core.Bool.{true};
 ghost use mathlib.Core.Logic.{_≢_};
 ghost use Prim.Native.Nat.{_+_, _-_, _*_, _≤_, _<_, _^_};
 ghost use lib.Dec.{leb, eqb};
+ghost use lib.Count.{ones};
 ghost use lib.ListN.{length};
 ghost use Rattle.laws.specs.UpTo.{allUpTo, sumUpTo};
 ghost use Rattle.laws.specs.Test.{pick};
-ghost use Rattle.laws.specs.Bit.{withBit};
+ghost use Rattle.laws.specs.Bit.{bit, withBit};
 ghost use Rattle.graph.specs.Graph.{entryIn, withMark, onesAt, blockOf, placed};
 ghost use Rattle.graph.specs.WellFormed.{pairFits, rowFits, startsFit};
 ghost use Rattle.graph.specs.Arrangement.{at, differs, isNew, placeFits, isReordering, staysInBlock, isPermitted, placeOf, movedRow, through, composed, inverse};
@@ -320,6 +321,15 @@ pub fn vertex_of(n: u32, p: &[u8; 32], i: u32) -> u32
     vertex_at(p, i)
 }
 
+// The bit that w has at the vertex at place j + 1, put at place j of a word.
+fn moved_weight(w: u32, n: u32, p: &[u8; 32], j: u32) -> u32
+    requires { ⌜ (n ≤ 32) × (isReordering n (now p) ≡ true) × (j < n) ⌝ }
+    ensures { λ r. ⌜ (r ≡ bit w (at (now (p .entry)) (j + 1) - 1) * 2 ^ j) ⌝ }
+{
+    let to = vertex_of(n, p, j + 1) - 1;
+    weight((w >> to) % 2, j)
+}
+
 // Row i of the rows moved by p.
 fn moved_row<'a>(rows: &'a [u32; 32], p: &'a [u8; 32], n: u32, i: u32) -> u32
     requires { ⌜ (n ≤ 32) × (isReordering n (now p) ≡ true) × (1 ≤ i) × (i ≤ n) ⌝ }
@@ -330,8 +340,7 @@ fn moved_row<'a>(rows: &'a [u32; 32], p: &'a [u8; 32], n: u32, i: u32) -> u32
     let mut row = 0;
     let mut j = 0;
     while j < n {
-        let to = vertex_of(n, p, j + 1) - 1;
-        row += weight((w >> to) % 2, j);
+        row += moved_weight(w, n, p, j);
         j += 1;
     }
     row
@@ -406,11 +415,18 @@ pub fn ones_in(rows: &[u32; 32]) -> u32
     sum
 }
 
+// How many bits of w are set.
+fn ones_of(w: u32) -> u32
+    ensures { λ r. ⌜ (r ≡ ones w) × (r ≤ 32) ⌝ }
+{
+    u32::count_ones(w)
+}
+
 // How many bits of row i are set.
 pub fn ones_at(rows: &[u32; 32], i: u32) -> u32
     requires { ⌜ (1 ≤ i) × (i ≤ 32) ⌝ }
     ensures { λ r. ⌜ (r ≡ onesAt (now (rows .entry)) i) × (r ≤ 32) ⌝ }
 {
     let at = (i - 1) as usize;
-    u32::count_ones(rows[at])
+    ones_of(rows[at])
 }

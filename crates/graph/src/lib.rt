@@ -1,5 +1,13 @@
+// Graph values, their entries, blocks and counts; arrangements. Vertices and places are numbered from 1.
+ghost use mathlib.Core.Path.{_≡_};
+ghost use lib.ListN.{replicate};
+ghost use Rattle.graph.specs.WellFormed.{wellFormed, orderFits};
+ghost use Rattle.graph.specs.Answers.{isVertex, isPair, noGraph, changed, arrangement, readAnswer, setAnswer, countAnswer, degreeAnswer, relabelAnswer, composeAnswer, invertAnswer};
+
 pub mod inner;
 
+// A partially drawn graph. The row of vertex i stands at index i - 1, and vertex j is its bit j - 1; an entry is 1 where
+// its bit is set in edges, unknown where it is set in unknowns. In starts, bit v - 1 is set where vertex v starts a block.
 pub struct Graph {
     pub order: u32,
     pub edges: [u32; 32],
@@ -7,19 +15,23 @@ pub struct Graph {
     pub starts: u32,
 }
 
-// An entry that was read: 0 non-edge, 1 edge, 2 unknown.
+// In each answer a refusal of 0 says that there is none.
+
+// An entry: 0 non-edge, 1 edge, 2 unknown.
 pub struct Reading {
     pub refusal: u32,
     pub place: usize,
     pub value: u32,
 }
 
+// A graph made from another one.
 pub struct Change {
     pub refusal: u32,
     pub place: usize,
     pub graph: Graph,
 }
 
+// How many pairs are edges, non-edges and unknown.
 pub struct Totals {
     pub refusal: u32,
     pub place: usize,
@@ -28,14 +40,258 @@ pub struct Totals {
     pub unknowns: u32,
 }
 
+// How many edges a vertex has.
 pub struct Degree {
     pub refusal: u32,
     pub place: usize,
     pub edges: u32,
 }
 
+// The vertex at place i stands at index i - 1; zeros follow after the last place.
 pub struct Arrangement {
     pub refusal: u32,
     pub place: usize,
     pub vertices: [u8; 32],
+}
+
+// Is it an order that a graph may have?
+pub fn order_fits(order: u32) -> bool
+    ensures { λ r. ⌜ r ≡ orderFits order ⌝ }
+{
+    if order < 1 {
+        return false;
+    }
+    order <= 32
+}
+
+// Is v a vertex of a graph of order n?
+pub fn is_vertex(n: u32, v: u32) -> bool
+    ensures { λ r. ⌜ r ≡ isVertex n v ⌝ }
+{
+    if v < 1 {
+        return false;
+    }
+    v <= n
+}
+
+// Are i and j two vertices of a graph of order n?
+pub fn is_pair(n: u32, i: u32, j: u32) -> bool
+    ensures { λ r. ⌜ r ≡ isPair n i j ⌝ }
+{
+    if is_vertex(n, i) {
+        if is_vertex(n, j) {
+            return i != j;
+        }
+        return false;
+    }
+    false
+}
+
+impl Graph {
+    // The graph of order 0, all zeros.
+    pub fn none() -> Graph
+        ensures { λ r. ⌜ r ≡ noGraph ⌝ }
+    {
+        Graph {
+            order: 0,
+            edges: [0u32; 32],
+            unknowns: [0u32; 32],
+            starts: 0,
+        }
+    }
+
+    // Is the order in range, the rows symmetric with nothing on the diagonal or past the order, no entry both known and
+    // unknown, does vertex 1 start a block, and lies no start past the order?
+    pub fn is_well_formed(self) -> bool
+        ensures { λ r. ⌜ r ≡ wellFormed self ⌝ }
+    {
+        let order = self.order;
+        if order_fits(order) {
+            if inner::starts_fit(order, self.starts) {
+                return inner::rows_fit(order, &self.edges, &self.unknowns);
+            }
+            return false;
+        }
+        false
+    }
+
+    // The entry at (i, j).
+    pub fn read(self, i: u32, j: u32) -> Reading
+        ensures { λ r. ⌜ r ≡ readAnswer self i j ⌝ }
+    {
+        if self.is_well_formed() {
+            if is_pair(self.order, i, j) {
+                return Reading {
+                    refusal: 0,
+                    place: 0,
+                    value: inner::entry_in(&self.edges, &self.unknowns, i, j),
+                };
+            }
+            return Reading {
+                refusal: 7,
+                place: 0,
+                value: 0,
+            };
+        }
+        Reading {
+            refusal: 8,
+            place: 0,
+            value: 0,
+        }
+    }
+
+    // The graph with the entry at (i, j), in both halves, made value; or the graph as it came.
+    pub fn set(mut self, i: u32, j: u32, value: u32) -> Change
+        ensures { λ r. ⌜ r ≡ setAnswer self i j value ⌝ }
+    {
+        if self.is_well_formed() {
+            if is_pair(self.order, i, j) {
+                if value <= 2 {
+                    inner::mark(&mut self.edges, i, j, value % 2);
+                    inner::mark(&mut self.unknowns, i, j, value / 2);
+                    return answer(0, self);
+                }
+                return answer(9, self);
+            }
+            return answer(7, self);
+        }
+        answer(8, self)
+    }
+
+    // How many pairs are edges, non-edges and unknown.
+    pub fn count(self) -> Totals
+        ensures { λ r. ⌜ r ≡ countAnswer self ⌝ }
+    {
+        if self.is_well_formed() {
+            let edges = inner::ones_in(&self.edges) / 2;
+            let unknowns = inner::ones_in(&self.unknowns) / 2;
+            let pairs = self.order * (self.order - 1) / 2;
+            return Totals {
+                refusal: 0,
+                place: 0,
+                edges,
+                non_edges: pairs - edges - unknowns,
+                unknowns,
+            };
+        }
+        Totals {
+            refusal: 8,
+            place: 0,
+            edges: 0,
+            non_edges: 0,
+            unknowns: 0,
+        }
+    }
+
+    // How many edges vertex v has.
+    pub fn count_at(self, v: u32) -> Degree
+        ensures { λ r. ⌜ r ≡ degreeAnswer self v ⌝ }
+    {
+        if self.is_well_formed() {
+            if is_vertex(self.order, v) {
+                return Degree {
+                    refusal: 0,
+                    place: 0,
+                    edges: inner::ones_at(&self.edges, v),
+                };
+            }
+            return Degree {
+                refusal: 7,
+                place: 0,
+                edges: 0,
+            };
+        }
+        Degree {
+            refusal: 8,
+            place: 0,
+            edges: 0,
+        }
+    }
+
+    // The graph relabelled by p, with the same blocks.
+    pub fn relabel(self, p: [u8; 32]) -> Change
+        ensures { λ r. ⌜ r ≡ relabelAnswer self p ⌝ }
+    {
+        if self.is_well_formed() {
+            let order = self.order;
+            let starts = self.starts;
+            if inner::is_permitted(order, starts, p) {
+                let edges = inner::moved_rows(&self.edges, &p, order);
+                let unknowns = inner::moved_rows(&self.unknowns, &p, order);
+                return answer(
+                    0,
+                    Graph {
+                        order,
+                        edges,
+                        unknowns,
+                        starts,
+                    },
+                );
+            }
+            return answer(11, Graph::none());
+        }
+        answer(8, Graph::none())
+    }
+}
+
+// The graph that is answered, with a refusal's number.
+fn answer(refusal: u32, graph: Graph) -> Change
+    ensures { λ r. ⌜ r ≡ changed refusal graph ⌝ }
+{
+    Change {
+        refusal,
+        place: 0,
+        graph,
+    }
+}
+
+// The vertices that are answered.
+fn arranged(vertices: [u8; 32]) -> Arrangement
+    ensures { λ r. ⌜ r ≡ arrangement 0 0 vertices ⌝ }
+{
+    Arrangement {
+        refusal: 0,
+        place: 0,
+        vertices,
+    }
+}
+
+// A refusal, with zeros beside it.
+fn unarranged(refusal: u32, place: u32) -> Arrangement
+    ensures { λ r. ⌜ r ≡ arrangement refusal place (replicate 32 0) ⌝ }
+{
+    Arrangement {
+        refusal,
+        place: place as usize,
+        vertices: [0u8; 32],
+    }
+}
+
+// p composed with q: it puts p(q(i)) at i.
+pub fn compose(order: u32, p: [u8; 32], q: [u8; 32]) -> Arrangement
+    ensures { λ r. ⌜ r ≡ composeAnswer order p q ⌝ }
+{
+    if order_fits(order) {
+        if inner::is_reordering(order, p) {
+            if inner::is_reordering(order, q) {
+                return arranged(inner::composed_of(order, &p, &q));
+            }
+            return unarranged(11, 0);
+        }
+        return unarranged(11, 0);
+    }
+    unarranged(2, order)
+}
+
+// The inverse of p: it puts at v the place at which p has v.
+pub fn invert(order: u32, p: [u8; 32]) -> Arrangement
+    ensures { λ r. ⌜ r ≡ invertAnswer order p ⌝ }
+{
+    if order_fits(order) {
+        if inner::is_reordering(order, p) {
+            return arranged(inner::inverse_of(order, &p));
+        }
+        return unarranged(11, 0);
+    }
+    unarranged(2, order)
 }

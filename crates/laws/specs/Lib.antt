@@ -9,3 +9,7 @@ pub mod TestLaws
 pub mod BitLaws
 pub mod UpToLaws
 pub mod ListLaws
+pub mod Pigeonhole
+pub mod SumLaws
+pub mod Each
+pub mod Chosen

@@ -18,6 +18,14 @@ getD-mem [] i d h = absurd (omega arith)
 getD-mem (x ∷ l) zero d h = List·Memᴰ·head refl
 getD-mem (x ∷ l) (suc i) d h = List·Memᴰ·tail (getD-mem l i d (omega arith))
 
+-- a list splits at each element that stands in it
+pub mem-split : {A : Type 0} (a : A) (l : List A) → List·Memᴰ a l → (xs : List A) × (ys : List A) × (l ≡ xs ++ a ∷ ys)
+mem-split a [] h = absurd (List·Memᴰ·not-nil h)
+mem-split {A} a (x ∷ l) h =
+    ⊎-elim (λ (e : a ≡ x). ([], l, ap {B = List A} (λ c. c ∷ l) (sym e)))
+    (λ (m : List·Memᴰ a l). let s = mem-split a l m in (x ∷ s .0, s .1, ap {B = List A} (λ r. x ∷ r) (s .2)))
+    (List·Memᴰ·cases-cons h)
+
 -- ---- no repeats
 
 -- no element stands twice

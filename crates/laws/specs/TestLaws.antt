@@ -1,5 +1,5 @@
 -- What tests and choices by a test come to.
-use mathlib.Core.Path.{_≡_, refl, sym}
+use mathlib.Core.Path.{_≡_, refl, sym, _∙_}
 use mathlib.Core.Logic.{_⊎_, inl, inr}
 use mathlib.Core.Bool.{Bool, true, false, true≢false, false≢true}
 use Rattle.laws.specs.Test.{both, either, pick, unless}
@@ -102,11 +102,13 @@ one-holds false b e = inr e
 
 -- ---- a choice at a known test
 
+-- the first, where the test holds
 pub pick-true : {A : Type 0} (t : Bool) (x y : A) → t ≡ true → pick t x y ≡ x
 unfolding pick
 pick-true true x y e = refl
 pick-true false x y e = absurd (false≢true e)
 
+-- the second, where it fails
 pub pick-false : {A : Type 0} (t : Bool) (x y : A) → t ≡ false → pick t x y ≡ y
 unfolding pick
 pick-false true x y e = absurd (true≢false e)
@@ -123,3 +125,20 @@ pub unless-false : {A : Type 0} (t : Bool) (refusal rest : A) → t ≡ false �
 unfolding unless
 unless-false true refusal rest e = absurd (true≢false e)
 unless-false false refusal rest e = refl
+
+-- an answer r, where a result b of the test is known: the refusal, or what comes after it
+pub refused : {A : Type 0} (b t : Bool) (r refusal rest : A) → b ≡ t → b ≡ false → r ≡ refusal → r ≡ unless t refusal rest
+refused b t r refusal rest e h q = q ∙ sym (unless-false t refusal rest (sym e ∙ h))
+
+pub passed : {A : Type 0} (b t : Bool) (r refusal rest : A) → b ≡ t → b ≡ true → r ≡ rest → r ≡ unless t refusal rest
+passed b t r refusal rest e h q = q ∙ sym (unless-true t refusal rest (sym e ∙ h))
+
+-- a result r of two tests, where a result a of the first is known
+pub first-failed : (a s t : Bool) → a ≡ s → a ≡ false → false ≡ both s t
+first-failed a s t e h = sym (first-fails s t (sym e ∙ h))
+
+pub first-refused : {A : Type 0} (a s t : Bool) (r refusal rest : A) → a ≡ s → a ≡ false → r ≡ refusal → r ≡ unless (both s t) refusal rest
+first-refused a s t r refusal rest e h q = refused false (both s t) r refusal rest (first-failed a s t e h) refl q
+
+pub first-held : (a s t r : Bool) → a ≡ s → a ≡ true → r ≡ t → r ≡ both s t
+first-held a s t r e h q = q ∙ sym (both-after s t (sym e ∙ h))

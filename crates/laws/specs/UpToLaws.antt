@@ -143,6 +143,7 @@ word-of-bits f n w h e =
 
 -- ---- lists
 
+-- the list has n elements
 pub list-length : {A : Type 0} (f : ℕ → A) (n : ℕ) → length (listUpTo f n) ≡ n
 unfolding listUpTo
 list-length f zero = refl

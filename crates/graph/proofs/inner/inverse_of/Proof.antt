@@ -1,15 +1,20 @@
 use borrow.Author.Needs.{needs}
+use Prim.Native.Nat.{_-_, _≤_}
+use mathlib.Core.Path.{_≡_}
+use Rattle.graph.specs.Graph.{placed}
+use Rattle.graph.specs.Arrangement.{placeOf}
+use Rattle.graph.proofs.CodePlaces.{placed-starts, placed-turns, inverse-done}
 use Rattle.graph.proofs.inner.inverse_of.Statement.{statement}
 use Rattle.graph.proofs.inner.inverse_of.Tie as tie
 
 abbrev Inv-loop : tie.InvT-loop
-Inv-loop n p out₀ i₀ out i = ?
+Inv-loop n p out₀ i₀ out i = (i ≤ n) × (out ≡ placed (placeOf p n) i)
 
 abbrev μ-loop : tie.MeasureT-loop
-μ-loop n p out₀ i₀ out i = ?
+μ-loop n p out₀ i₀ out i = n - i
 
 loop-holds : tie.Need-loop-holds Inv-loop μ-loop
-loop-holds c = search needs
+loop-holds c = search (placed-starts, needs)
 
 cast-at : tie.Need-cast-at Inv-loop μ-loop
 cast-at c = search needs
@@ -30,10 +35,10 @@ loop-less : tie.Need-loop-less Inv-loop μ-loop
 loop-less c = search needs
 
 loop-again : tie.Need-loop-again Inv-loop μ-loop
-loop-again c = search needs
+loop-again c = search (placed-turns, needs)
 
 returns : tie.Need-returns Inv-loop μ-loop
-returns c = search needs
+returns c = search (inverse-done, needs)
 
 pub inverse-of-spec : {M : Type 1} → statement M
 inverse-of-spec =

@@ -1,12 +1,19 @@
 use borrow.Author.Needs.{needs}
+use Prim.Native.Nat.{_-_, _≤_, _<_, _^_}
+use mathlib.Core.Path.{_≡_}
+use Rattle.laws.specs.UpTo.{wordUpTo}
+use Rattle.laws.specs.Loops.{word-starts}
+use Rattle.graph.specs.Graph.{row as rowOf}
+use Rattle.graph.specs.Arrangement.{at, movedBit}
+use Rattle.graph.proofs.CodePlaces.{row-of-place, moved-turns, moved-done, word-grows, word-fits}
 use Rattle.graph.proofs.inner.moved_row.Statement.{statement}
 use Rattle.graph.proofs.inner.moved_row.Tie as tie
 
 abbrev Inv-loop : tie.InvT-loop
-Inv-loop rows p n i from w row₀ j₀ row j = ?
+Inv-loop rows p n i from w row₀ j₀ row j = (j ≤ n) × (w ≡ rowOf rows (at p i)) × (row ≡ wordUpTo (movedBit rows p i) j) × (row < 2 ^ j)
 
 abbrev μ-loop : tie.MeasureT-loop
-μ-loop rows p n i from w row₀ j₀ row j = ?
+μ-loop rows p n i from w row₀ j₀ row j = n - j
 
 vertex-of-requires : tie.Need-vertex-of-requires Inv-loop μ-loop
 vertex-of-requires c κs = search needs
@@ -24,25 +31,13 @@ element-copy-out-w : tie.Need-element-copy-out-w Inv-loop μ-loop
 element-copy-out-w c = search needs
 
 loop-holds : tie.Need-loop-holds Inv-loop μ-loop
-loop-holds c = search needs
+loop-holds c = (search needs, search row-of-place, search word-starts, search needs)
 
-add-vertex-of : tie.Need-add-vertex-of Inv-loop μ-loop
-add-vertex-of c = search needs
-
-vertex-of-requires-2 : tie.Need-vertex-of-requires-2 Inv-loop μ-loop
-vertex-of-requires-2 c κs = search needs
-
-sub-to : tie.Need-sub-to Inv-loop μ-loop
-sub-to c = search needs
-
-shr-weight : tie.Need-shr-weight Inv-loop μ-loop
-shr-weight c = search needs
-
-weight-requires : tie.Need-weight-requires Inv-loop μ-loop
-weight-requires c κs = search needs
+moved-weight-requires : tie.Need-moved-weight-requires Inv-loop μ-loop
+moved-weight-requires c κs = search needs
 
 add-row : tie.Need-add-row Inv-loop μ-loop
-add-row c = search needs
+add-row c = search (word-fits, needs)
 
 add-j : tie.Need-add-j Inv-loop μ-loop
 add-j c = search needs
@@ -51,10 +46,10 @@ loop-less : tie.Need-loop-less Inv-loop μ-loop
 loop-less c = search needs
 
 loop-again : tie.Need-loop-again Inv-loop μ-loop
-loop-again c = search needs
+loop-again c = (search needs, search needs, search moved-turns, search word-grows)
 
 returns : tie.Need-returns Inv-loop μ-loop
-returns c = search needs
+returns c = search (moved-done, needs)
 
 pub moved-row-spec : {M : Type 1} → statement M
 moved-row-spec =
@@ -68,11 +63,7 @@ moved-row-spec =
     mul-w
     element-copy-out-w
     loop-holds
-    add-vertex-of
-    vertex-of-requires-2
-    sub-to
-    shr-weight
-    weight-requires
+    moved-weight-requires
     add-row
     add-j
     loop-less

@@ -1,4 +1,5 @@
 use borrow.Author.Needs.{needs}
+use Rattle.graph.proofs.CodePlaces.{ones-is}
 use Rattle.graph.proofs.inner.ones_at.Statement.{statement}
 use Rattle.graph.proofs.inner.ones_at.Tie as tie
 
@@ -8,14 +9,19 @@ sub-at c = search needs
 cast-at : tie.Need-cast-at
 cast-at c = search needs
 
-mul-result : tie.Need-mul-result
-mul-result c = search needs
+mul-ones-of : tie.Need-mul-ones-of
+mul-ones-of c = search needs
 
-element-copy-out-result : tie.Need-element-copy-out-result
-element-copy-out-result c = search needs
+element-copy-out-ones-of : tie.Need-element-copy-out-ones-of
+element-copy-out-ones-of c = search needs
+
+ones-of-requires : tie.Need-ones-of-requires
+ones-of-requires c κs = search needs
 
 returns : tie.Need-returns
-returns c = search needs
+returns c = search (ones-is, needs)
 
 pub ones-at-spec : {M : Type 1} → statement M
-ones-at-spec = tie.close (tie.spec sub-at cast-at mul-result element-copy-out-result returns)
+ones-at-spec =
+    tie.close
+    (tie.spec sub-at cast-at mul-ones-of element-copy-out-ones-of ones-of-requires returns)

@@ -1,4 +1,5 @@
 use borrow.Author.Needs.{needs}
+use Rattle.graph.proofs.CodePlaces.{through-is}
 use Rattle.graph.proofs.inner.through_at.Statement.{statement}
 use Rattle.graph.proofs.inner.through_at.Tie as tie
 
@@ -15,7 +16,7 @@ element-copy-out-result : tie.Need-element-copy-out-result
 element-copy-out-result c = search needs
 
 returns : tie.Need-returns
-returns c = search needs
+returns c = search (through-is, needs)
 
 pub through-at-spec : {M : Type 1} → statement M
 through-at-spec =

@@ -1,4 +1,5 @@
 use borrow.Author.Needs.{needs}
+use Rattle.graph.proofs.CodeTests.{vertex-low, vertex-high}
 use Rattle.graph.proofs.inner.vertex_of.Statement.{statement}
 use Rattle.graph.proofs.inner.vertex_of.Tie as tie
 
@@ -6,7 +7,7 @@ vertex-at-requires : tie.Need-vertex-at-requires
 vertex-at-requires c κs = search needs
 
 returns : tie.Need-returns
-returns c = search needs
+returns c = search (vertex-low, vertex-high, needs)
 
 pub vertex-of-spec : {M : Type 1} → statement M
 vertex-of-spec = tie.close (tie.spec vertex-at-requires returns)

@@ -1,0 +1,12 @@
+pub mod Computed
+pub mod Order
+pub mod Children
+pub mod Follows
+pub mod Subtree
+pub mod Reached
+pub mod Room
+pub mod Completed
+pub mod Count
+pub mod Steps
+pub mod FirstCertificate
+pub mod Loop

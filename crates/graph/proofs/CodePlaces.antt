@@ -1,0 +1,83 @@
+-- What the code builds for relabelling, composing and inverting, turn by turn.
+use Prim.Native.Nat.{ℕ, zero, suc, _+_, _-_, _*_, _/_, _%_, _≤_, _<_, _^_}
+use native.Mathlib.Omega.{arith}
+use native.Mathlib.Nat.{pow-suc, lt-of-lt-of-le, eq-or-lt-of-le}
+use native.Mathlib.Numerals.{add-one}
+use mathlib.Core.Path.{_≡_, refl, sym, ap, ap₂, _∙_}
+use mathlib.Core.Logic.{_⊎_, inl, inr, ⊎-elim}
+use mathlib.Core.List.{List, [], _∷_, _++_, append-assoc}
+use lib.Count.{ones, ones-le}
+use lib.ListN.{length, getD, set, replicate, length-append, length-replicate}
+use lib.Pow.{pow-mono}
+use lib.Seq.{set-at}
+use mir.Syntax.{w32}
+use mir.Val.{Fits}
+use Rattle.laws.specs.Bit.{bit}
+use Rattle.laws.specs.UpTo.{sumUpTo, wordUpTo, listUpTo}
+use Rattle.laws.specs.UpToLaws.{list-length}
+use Rattle.laws.specs.Loops.{sum-turns, word-turns}
+use Rattle.graph.specs.Graph.{row, placed, onesAt}
+use Rattle.graph.specs.Arrangement.{at, movedBit, movedRow, through, composed, inverse, placeOf}
+
+-- ---- an array that is filled from the front
+
+pub placed-starts : (f : ℕ → ℕ) → replicate 32 0 ≡ placed f 0
+unfolding placed listUpTo
+placed-starts f = refl
+
+pub placed-turns : (f : ℕ → ℕ) (i v n : ℕ) (out : List ℕ) → out ≡ placed f i → v ≡ f (i + 1) → i < n → n ≤ 32 → set out i v ≡ placed f (i + 1)
+unfolding placed listUpTo
+placed-turns f i v n out h e k l =
+    let s : 32 - i ≡ suc (32 - suc i) = omega arith in
+    rw (h, e, add-one i, s) (set-at (listUpTo f i) 0 (replicate (32 - suc i) 0) (f (suc i)) i (list-length f i) ∙ sym (append-assoc (listUpTo f i) (f (suc i) ∷ []) (replicate (32 - suc i) 0)))
+
+pub placed-done : (f : ℕ → ℕ) (m n : ℕ) (out : List ℕ) → out ≡ placed f m → m ≤ n → n ≤ m → out ≡ placed f n
+placed-done f m n out h a b = let q : m ≡ n = omega arith in h ∙ ap (placed f) q
+
+-- ---- a row that is moved
+
+pub row-of-place : (rows p : List ℕ) (i v : ℕ) → v ≡ at p i → getD rows (v - 1) 0 ≡ row rows (at p i)
+row-of-place rows p i v e = ap (λ (k : ℕ). getD rows (k - 1) 0) e
+
+pub moved-weight : (w v x j r : ℕ) → v ≡ x → r ≡ w / 2 ^ (v - 1) % 2 * 2 ^ j → r ≡ bit w (x - 1) * 2 ^ j
+moved-weight w v x j r e h = h ∙ ap (λ (k : ℕ). bit w (k - 1) * 2 ^ j) e
+
+pub moved-turns : (rows p : List ℕ) (i j w s r : ℕ) → w ≡ row rows (at p i) → r ≡ bit w (at p (j + 1) - 1) * 2 ^ j
+    → s ≡ wordUpTo (movedBit rows p i) j → s + r ≡ wordUpTo (movedBit rows p i) (j + 1)
+unfolding movedBit
+moved-turns rows p i j w s r a e h = word-turns (movedBit rows p i) j s r h (e ∙ rw a)
+
+pub moved-done : (rows p : List ℕ) (i m n s : ℕ) → s ≡ wordUpTo (movedBit rows p i) m → m ≤ n → n ≤ m → s ≡ movedRow rows p n i
+unfolding movedRow
+moved-done rows p i m n s h a b = let q : m ≡ n = omega arith in h ∙ ap (wordUpTo (movedBit rows p i)) q
+
+bit-cases : (b : ℕ) → (b % 2 ≡ 0) ⊎ (b % 2 ≡ 1)
+bit-cases b = ⊎-elim (λ (q : b % 2 ≡ 1). inr q) (λ (q : b % 2 < 1). inl (omega arith)) (eq-or-lt-of-le {m = 1} (omega arith))
+
+-- a word of j bits with one more at j
+pub word-grows : (s r b j : ℕ) → s < 2 ^ j → r ≡ b % 2 * 2 ^ j → s + r < 2 ^ (j + 1)
+word-grows s r b j h e = rw (add-one j) (⊎-elim (λ (z : b % 2 ≡ 0). omega (arith, pow-suc 2 j, e ∙ ap (λ (x : ℕ). x * 2 ^ j) z)) (λ (z : b % 2 ≡ 1). omega (arith, pow-suc 2 j, e ∙ ap (λ (x : ℕ). x * 2 ^ j) z)) (bit-cases b))
+
+pub word-fits : (s r b j n : ℕ) → s < 2 ^ j → r ≡ b % 2 * 2 ^ j → j < n → n ≤ 32 → s + r < 2 ^ 32
+word-fits s r b j n h e l k = lt-of-lt-of-le (word-grows s r b j h e) (pow-mono {j = 32} (omega arith))
+
+-- ---- through, and counts
+
+pub through-is : (p q : List ℕ) (i v : ℕ) → v ≡ at q i → getD p (v - 1) 0 ≡ through p q i
+unfolding through
+through-is p q i v e = ap (λ (k : ℕ). getD p (k - 1) 0) e
+
+pub composed-done : (p q : List ℕ) (m n : ℕ) (out : List ℕ) → out ≡ placed (through p q) m → m ≤ n → n ≤ m → out ≡ composed n p q
+unfolding composed
+composed-done p q m n out h a b = placed-done (through p q) m n out h a b
+
+pub inverse-done : (p : List ℕ) (m n : ℕ) (out : List ℕ) → out ≡ placed (placeOf p n) m → m ≤ n → n ≤ m → out ≡ inverse n p
+unfolding inverse
+inverse-done p m n out h a b = placed-done (placeOf p n) m n out h a b
+
+pub ones-is : (rows : List ℕ) (i r : ℕ) → r ≡ ones (getD rows (i - 1) 0) → r ≡ onesAt rows i
+unfolding onesAt
+ones-is rows i r e = e
+
+pub ones-small : (x : ℕ) → Fits w32 x → ones x ≤ 32
+ones-small x h = ones-le 32 x (h .fits)

@@ -1,0 +1,38 @@
+use borrow.Author.Needs.{needs}
+use Rattle.laws.specs.TestLaws.{refused, passed}
+use Rattle.graph.proofs.CodeAnswers.{vertex-low, vertex-most, degree-is}
+use Rattle.graph.specs.Answers.{degreeAnswer}
+use Rattle.graph.proofs.Graph.count_at.Statement.{statement}
+use Rattle.graph.proofs.Graph.count_at.Tie as tie
+
+is-well-formed-requires : tie.Need-is-well-formed-requires
+is-well-formed-requires c κs = search needs
+
+is-vertex-requires : tie.Need-is-vertex-requires
+is-vertex-requires c κs = search needs
+
+ones-at-requires : tie.Need-ones-at-requires
+ones-at-requires c κs = search (vertex-low, vertex-most, needs)
+
+returns : tie.Need-returns
+unfolding degreeAnswer
+returns c = search (refused, passed, degree-is, needs)
+
+returns-2 : tie.Need-returns-2
+unfolding degreeAnswer
+returns-2 c = search (refused, passed, degree-is, needs)
+
+returns-3 : tie.Need-returns-3
+unfolding degreeAnswer
+returns-3 c = search (refused, passed, degree-is, needs)
+
+pub count-at-spec : {M : Type 1} → statement M
+count-at-spec =
+    tie.close
+    (tie.spec
+    is-well-formed-requires
+    is-vertex-requires
+    ones-at-requires
+    returns
+    returns-2
+    returns-3)

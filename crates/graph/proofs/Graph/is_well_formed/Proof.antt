@@ -1,0 +1,33 @@
+use borrow.Author.Needs.{needs}
+use Rattle.graph.proofs.CodeAnswers.{order-most, formed-not-order, formed-not-starts, formed-rows}
+use Rattle.graph.proofs.Graph.is_well_formed.Statement.{statement}
+use Rattle.graph.proofs.Graph.is_well_formed.Tie as tie
+
+order-fits-requires : tie.Need-order-fits-requires
+order-fits-requires c κs = search needs
+
+starts-fit-requires : tie.Need-starts-fit-requires
+starts-fit-requires c κs = search (order-most, needs)
+
+rows-fit-requires : tie.Need-rows-fit-requires
+rows-fit-requires c κs = search (order-most, needs)
+
+returns : tie.Need-returns
+returns c = search (formed-rows, needs)
+
+returns-2 : tie.Need-returns-2
+returns-2 c = search (formed-not-starts, needs)
+
+returns-3 : tie.Need-returns-3
+returns-3 c = search (formed-not-order, needs)
+
+pub is-well-formed-spec : {M : Type 1} → statement M
+is-well-formed-spec =
+    tie.close
+    (tie.spec
+    order-fits-requires
+    starts-fit-requires
+    rows-fit-requires
+    returns
+    returns-2
+    returns-3)

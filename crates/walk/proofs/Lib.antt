@@ -1,0 +1,13 @@
+pub mod Test
+pub mod Step
+pub mod Prefix
+pub mod Standing
+pub mod Words
+pub mod Order
+pub mod Literals
+pub mod Reached
+pub mod Sound
+pub mod Number
+pub mod Clause
+pub mod Rising
+pub mod Broken

@@ -1,0 +1,168 @@
+-- The order of drawings along a list of pairs: irreflexive, transitive, total up to agreement, tested by isEarlier, and the
+-- lexicographic order of the entries.
+use Prim.Native.Nat.{ℕ, _<_, _≤_}
+use native.Mathlib.Omega.{arith}
+use native.Mathlib.Decide.{ℕ-discrete}
+use mathlib.Core.Path.{_≡_, refl, sym, _∙_, ap}
+use mathlib.Core.Logic.{_↔_, _⊎_, inl, inr}
+use mathlib.Core.Bool.{Bool, true, false, false≢true}
+use mathlib.Core.List.{List, [], _∷_, _++_, map}
+use lib.Dec.{eqb}
+use borrow.Author.Tests.{eqb-true, eq-eqb}
+use Rattle.laws.specs.Test.{both, either}
+use Rattle.laws.specs.Each.{Each, each-none, each-cons, each-first, each-rest}
+use Rattle.walk.specs.Earlier.{Earlier, isEarlier, LexLess}
+use Rattle.walk.proofs.Test.{either-second}
+
+module _ {P : Type 0} (x y : P → ℕ) where
+  -- ---- one pair more
+
+  -- x is earlier where it has 0 against 1 at the first pair
+  pub earlier-here : {k : P} {ks : List P} → x k ≡ 0 → y k ≡ 1 → Earlier (k ∷ ks) x y
+  earlier-here {k} {ks} z o =
+      record { before = []; pair = k; after = ks; split = refl; agree = each-none (λ j. x j ≡ y j); zero-here = z; one-there = o }
+
+  -- or agrees there and is earlier along the rest
+  pub earlier-later : {k : P} {ks : List P} → x k ≡ y k → Earlier ks x y → Earlier (k ∷ ks) x y
+  earlier-later {k} a e =
+      record {
+        before = k ∷ e .before;
+        pair = e .pair;
+        after = e .after;
+        split = ap (λ l. k ∷ l) (e .split);
+        agree = each-cons (λ j. x j ≡ y j) a (e .agree);
+        zero-here = e .zero-here;
+        one-there = e .one-there;
+      }
+
+  from-split : {k : P} {ks : List P} (before : List P) (j : P) (after : List P) → k ∷ ks ≡ before ++ j ∷ after
+      → Each (λ i. x i ≡ y i) before → x j ≡ 0 → y j ≡ 1 → ((x k ≡ 0) × (y k ≡ 1)) ⊎ ((x k ≡ y k) × Earlier ks x y)
+  from-split {k} {ks} [] j after e a z o =
+      let first : k ≡ j = cc in
+      inl (ap x first ∙ z, ap y first ∙ o)
+  from-split {k} {ks} (i ∷ before) j after e a z o =
+      let first : k ≡ i = cc in
+      inr (
+        ap x first ∙ each-first (λ i. x i ≡ y i) a ∙ ap y (sym first),
+        record {
+          before = before;
+          pair = j;
+          after = after;
+          split = cc;
+          agree = each-rest (λ i. x i ≡ y i) a;
+          zero-here = z;
+          one-there = o;
+        },
+      )
+
+  -- and in no other way
+  pub earlier-cases : {k : P} {ks : List P} → Earlier (k ∷ ks) x y → ((x k ≡ 0) × (y k ≡ 1)) ⊎ ((x k ≡ y k) × Earlier ks x y)
+  earlier-cases e = from-split (e .before) (e .pair) (e .after) (e .split) (e .agree) (e .zero-here) (e .one-there)
+
+  no-split : (before : List P) (j : P) (after : List P) → [] ≡ before ++ j ∷ after → ⊥
+  no-split [] j after e = let z : _≡_ {A = ℕ} 0 1 = cc in omega arith
+  no-split (i ∷ before) j after e = let z : _≡_ {A = ℕ} 0 1 = cc in omega arith
+
+  -- along no pairs, none is earlier
+  pub earlier-none : Earlier [] x y → ⊥
+  earlier-none e = no-split (e .before) (e .pair) (e .after) (e .split)
+
+  -- x is earlier where at one pair it has at most what y has, which is 0 or 1, and is earlier along the rest
+  pub earlier-under : {k : P} {ks : List P} → x k ≤ y k → y k ≤ 1 → Earlier ks x y → Earlier (k ∷ ks) x y
+  earlier-under {k} {ks} h l e = at (ℕ-discrete (x k) (y k))
+    where
+      at : Dec (x k ≡ y k) → Earlier (k ∷ ks) x y
+      at (yes a) = earlier-later a e
+      at (no n) = earlier-here (omega arith) (omega arith)
+
+  -- ---- the test
+
+  -- the test tells
+  pub isEarlier-tells : (ks : List P) → (isEarlier ks x y ≡ true) ↔ Earlier ks x y
+  unfolding isEarlier both either
+  isEarlier-tells [] = (λ e. absurd (false≢true e), λ e. absurd (earlier-none e))
+  isEarlier-tells (k ∷ ks) = (
+    to (eqb (x k) 0) (eqb (y k) 1) (eqb (x k) (y k)) refl refl refl (isEarlier-tells ks .0),
+    λ e. from (isEarlier-tells ks .1) (earlier-cases e),
+  )
+    where
+      to : (z o a : Bool) → eqb (x k) 0 ≡ z → eqb (y k) 1 ≡ o → eqb (x k) (y k) ≡ a → (isEarlier ks x y ≡ true → Earlier ks x y)
+          → either (both z o) (both a (isEarlier ks x y)) ≡ true → Earlier (k ∷ ks) x y
+      to true true a p q r f e = earlier-here (eqb-true (x k) 0 p) (eqb-true (y k) 1 q)
+      to true false true p q r f e = earlier-later (eqb-true (x k) (y k) r) (f e)
+      to true false false p q r f e = absurd (false≢true e)
+      to false o true p q r f e = earlier-later (eqb-true (x k) (y k) r) (f e)
+      to false o false p q r f e = absurd (false≢true e)
+
+      from : (Earlier ks x y → isEarlier ks x y ≡ true) → ((x k ≡ 0) × (y k ≡ 1)) ⊎ ((x k ≡ y k) × Earlier ks x y)
+          → either (both (eqb (x k) 0) (eqb (y k) 1)) (both (eqb (x k) (y k)) (isEarlier ks x y)) ≡ true
+      from f (inl a) = rw (eq-eqb (x k) 0 (a .0), eq-eqb (y k) 1 (a .1))
+      from f (inr a) = either-second (both (eqb (x k) 0) (eqb (y k) 1)) (both (eqb (x k) (y k)) (isEarlier ks x y)) (rw (eq-eqb (x k) (y k) (a .0), f (a .1)))
+
+-- ---- an order
+
+-- no drawing is earlier than itself
+pub earlier-irreflexive : {P : Type 0} (x : P → ℕ) (ks : List P) → Earlier ks x x → ⊥
+earlier-irreflexive x ks e = omega (arith, e .zero-here, e .one-there)
+
+pub earlier-transitive : {P : Type 0} (x y z : P → ℕ) (ks : List P) → Earlier ks x y → Earlier ks y z → Earlier ks x z
+earlier-transitive x y z [] e f = absurd (earlier-none x y e)
+earlier-transitive {P} x y z (k ∷ ks) e f =
+    at (earlier-cases x y e) (earlier-cases y z f) (λ g h. earlier-transitive x y z ks g h)
+  where
+    at : ((x k ≡ 0) × (y k ≡ 1)) ⊎ ((x k ≡ y k) × Earlier ks x y) → ((y k ≡ 0) × (z k ≡ 1)) ⊎ ((y k ≡ z k) × Earlier ks y z)
+        → (Earlier ks x y → Earlier ks y z → Earlier ks x z) → Earlier (k ∷ ks) x z
+    at (inl a) (inl b) g = absurd (omega arith)
+    at (inl a) (inr b) g = earlier-here x z (a .0) (omega arith)
+    at (inr a) (inl b) g = earlier-here x z (omega arith) (b .1)
+    at (inr a) (inr b) g = earlier-later x z (a .0 ∙ b .0) (g (a .1) (b .1))
+
+-- of two drawings with entries 0 and 1 one is earlier, or they agree
+pub earlier-trichotomy : {P : Type 0} (x y : P → ℕ) (ks : List P) → Each (λ k. x k ≤ 1) ks → Each (λ k. y k ≤ 1) ks
+    → Earlier ks x y ⊎ Earlier ks y x ⊎ Each (λ k. x k ≡ y k) ks
+earlier-trichotomy x y [] h g = inr (inr (each-none (λ k. x k ≡ y k)))
+earlier-trichotomy {P} x y (k ∷ ks) h g =
+    at (ℕ-discrete (x k) (y k)) (ℕ-discrete (x k) 0)
+    (earlier-trichotomy x y ks (each-rest (λ k. x k ≤ 1) h) (each-rest (λ k. y k ≤ 1) g))
+  where
+    hx : x k ≤ 1
+    hx = each-first (λ k. x k ≤ 1) h
+
+    gy : y k ≤ 1
+    gy = each-first (λ k. y k ≤ 1) g
+
+    on : x k ≡ y k → Earlier ks x y ⊎ Earlier ks y x ⊎ Each (λ k. x k ≡ y k) ks
+        → Earlier (k ∷ ks) x y ⊎ Earlier (k ∷ ks) y x ⊎ Each (λ k. x k ≡ y k) (k ∷ ks)
+    on a (inl e) = inl (earlier-later x y a e)
+    on a (inr (inl e)) = inr (inl (earlier-later y x (sym a) e))
+    on a (inr (inr e)) = inr (inr (each-cons (λ k. x k ≡ y k) a e))
+
+    at : Dec (x k ≡ y k) → Dec (x k ≡ 0) → Earlier ks x y ⊎ Earlier ks y x ⊎ Each (λ k. x k ≡ y k) ks
+        → Earlier (k ∷ ks) x y ⊎ Earlier (k ∷ ks) y x ⊎ Each (λ k. x k ≡ y k) (k ∷ ks)
+    at (yes a) z rest = on a rest
+    at (no n) (yes z) rest = inl (earlier-here x y z (omega (arith, gy)))
+    at (no n) (no z) rest = inr (inl (earlier-here y x (omega (arith, hx, gy)) (omega (arith, hx))))
+
+-- ---- the lexicographic order
+
+-- earlier, for entries 0 and 1, is the lexicographic order of the entries written one after the other
+pub earlier-lexicographic : {P : Type 0} (x y : P → ℕ) (ks : List P) → Each (λ k. x k ≤ 1) ks → Each (λ k. y k ≤ 1) ks
+    → Earlier ks x y ↔ LexLess (map x ks) (map y ks)
+unfolding LexLess
+earlier-lexicographic x y [] h g = (earlier-none x y, λ e. absurd e)
+earlier-lexicographic {P} x y (k ∷ ks) h g =
+    let rest = earlier-lexicographic x y ks (each-rest (λ k. x k ≤ 1) h) (each-rest (λ k. y k ≤ 1) g) in
+    (λ e. to (rest .0) (earlier-cases x y e), from (rest .1))
+  where
+    gy : y k ≤ 1
+    gy = each-first (λ k. y k ≤ 1) g
+
+    to : (Earlier ks x y → LexLess (map x ks) (map y ks)) → ((x k ≡ 0) × (y k ≡ 1)) ⊎ ((x k ≡ y k) × Earlier ks x y)
+        → (x k < y k) ⊎ ((x k ≡ y k) × LexLess (map x ks) (map y ks))
+    to f (inl a) = inl (omega arith)
+    to f (inr a) = inr (a .0, f (a .1))
+
+    from : (LexLess (map x ks) (map y ks) → Earlier ks x y) → (x k < y k) ⊎ ((x k ≡ y k) × LexLess (map x ks) (map y ks))
+        → Earlier (k ∷ ks) x y
+    from f (inl a) = earlier-here x y (omega (arith, gy)) (omega (arith, gy))
+    from f (inr a) = earlier-later x y (a .0) (f (a .1))
