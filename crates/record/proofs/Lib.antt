@@ -5,7 +5,7 @@ pub mod SizeLaws
 pub mod PassLaws
 pub mod RecordCases
 pub mod MarkLaws
-pub mod Temp
 pub mod Accepted
 pub mod PairSearch
 pub mod WriteLaws
+pub mod WriteCases

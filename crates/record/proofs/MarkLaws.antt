@@ -17,7 +17,7 @@ use Rattle.graph.proofs.Placed.{placed-same}
 use Rattle.record.specs.Layout.{entryPlace}
 use Rattle.record.specs.Reading.{bitOf, orderIn, startsIn, numberedIn, entryIn, graphIn}
 use Rattle.record.specs.Marks.{markIn, rowIn, rowsIn}
-use Rattle.record.proofs.Temp.{placed-done}
+use Rattle.graph.proofs.CodePlaces.{placed-done}
 use Rattle.record.proofs.BitLaws.{bit-small}
 
 -- ---- one bit of an entry

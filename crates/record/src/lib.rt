@@ -15,7 +15,7 @@ ghost use Rattle.record.specs.Layout.{bitCount, byteCount};
 ghost use Rattle.record.specs.Reading.{bitOf, orderIn, startIn, startsIn, isRefused, refusedIn, padIn, graphIn};
 ghost use Rattle.record.specs.Marks.{markIn, rowIn, rowsIn};
 ghost use Rattle.record.specs.Writing.{IsPairOf, entryBit, recordBit, recordByte, recordOf};
-ghost use Rattle.record.specs.Answers.{fieldAnswer, sizeAnswer, recordAt, readAnswer, restOf};
+ghost use Rattle.record.specs.Answers.{fieldAnswer, sizeAnswer, recordAt, readAnswer, restOf, writeAnswer, bufferAfter};
 
 // A field that was read, or why not.
 pub struct Value {
@@ -422,4 +422,20 @@ fn put(g: Graph, out: &mut [u8])
         out[k] = byte_of(g, k);
         k += 1;
     }
+}
+
+// Writes the record of a graph at the start of out, and nothing after it.
+// Refuses 8 for a graph that is not well formed, then 6 for a buffer below the record, each with place 0 and out as it was.
+pub fn write(graph: Graph, out: &mut [u8]) -> Written
+    ensures { λ r. ⌜ (r ≡ writeAnswer graph (now (out .entry))) × (now (out .exit) ≡ bufferAfter graph (now (out .entry))) ⌝ }
+{
+    if graph.is_well_formed() {
+        let size = byte_count(graph.order);
+        if out.len() < size {
+            return Written { refusal: 6, place: 0, written: 0 };
+        }
+        put(graph, out);
+        return Written { refusal: 0, place: 0, written: size };
+    }
+    Written { refusal: 8, place: 0, written: 0 }
 }

@@ -1,5 +1,5 @@
 use Rattle.record.proofs.MarkLaws.{rows-done}
-use Rattle.record.proofs.Temp.{placed-starts, placed-turns}
+use Rattle.graph.proofs.CodePlaces.{placed-starts, placed-turns}
 use Rattle.record.specs.Marks.{rowIn}
 use Rattle.record.specs.Reading.{bitOf}
 use Rattle.graph.specs.Graph.{placed}
