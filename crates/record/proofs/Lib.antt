@@ -9,3 +9,4 @@ pub mod Accepted
 pub mod PairSearch
 pub mod WriteLaws
 pub mod WriteCases
+pub mod RecordBits
