@@ -61,3 +61,18 @@ num-own f a (suc w) x h own =
     last =
         let s : suc w - 1 - w ≡ 0 = omega arith in
         rw s at (own w (omega arith))
+
+-- zeros make 0
+pub num-of-zeros : (f : ℕ → ℕ) (a w : ℕ) → ((t : ℕ) → t < w → f (a + t) ≡ 0) → num f a w ≡ 0
+unfolding num
+num-of-zeros f a zero zeros = refl
+num-of-zeros f a (suc w) zeros =
+    omega (arith, num-of-zeros f a w (λ t h. zeros t (omega arith)), zeros w (omega arith))
+
+-- and only they do
+pub zeros-of-num : (f : ℕ → ℕ) (a w : ℕ) → num f a w ≡ 0 → (t : ℕ) → t < w → f (a + t) ≡ 0
+unfolding num
+zeros-of-num f a zero e t h = absurd (not-suc-le-zero h)
+zeros-of-num f a (suc w) e t h =
+    ⊎-elim (λ (q : t ≡ w). rw q (omega arith)) (λ (l : t < w). zeros-of-num f a w (omega arith) t l)
+    (eq-or-lt-of-le (le-of-suc-le-suc h))

@@ -10,3 +10,4 @@ pub mod PairSearch
 pub mod WriteLaws
 pub mod WriteCases
 pub mod RecordBits
+pub mod WrittenRead
