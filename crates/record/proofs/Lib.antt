@@ -11,3 +11,4 @@ pub mod WriteLaws
 pub mod WriteCases
 pub mod RecordBits
 pub mod WrittenRead
+pub mod ReadWritten

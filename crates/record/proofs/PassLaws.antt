@@ -48,13 +48,16 @@ pub start-later : (f : ℕ → ℕ) (v b : ℕ) → (v ≡ 1 → ⊥) → b ≡ 
 unfolding startIn
 start-later f v b e is-b = is-b ∙ sym (pick-false (eqb v 1) 1 (f (6 + (v - 2))) (ne-eqb v 1 e))
 
-pub start-small : (s : List ℕ) (v : ℕ) → startIn (bitOf s) v ≤ 1
+pub start-at-most : (f : ℕ → ℕ) → ((k : ℕ) → f k < 2) → (v : ℕ) → startIn f v ≤ 1
 unfolding startIn pick
-start-small s v = go (eqb v 1) (bitOf s (6 + (v - 2))) (bit-small s (6 + (v - 2)))
+start-at-most f small v = go (eqb v 1) (f (6 + (v - 2))) (small (6 + (v - 2)))
   where
     go : (t : Bool) (b : ℕ) → b < 2 → pick t 1 b ≤ 1
     go true b h = omega arith
     go false b h = omega arith
+
+pub start-small : (s : List ℕ) (v : ℕ) → startIn (bitOf s) v ≤ 1
+start-small s = start-at-most (bitOf s) (bit-small s)
 
 pub starts-done : (f : ℕ → ℕ) (m n w : ℕ) → w ≡ wordUpTo (startIn f) m → m ≤ n → n ≤ m → w ≡ startsIn f n
 unfolding startsIn

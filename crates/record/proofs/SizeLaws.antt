@@ -1,6 +1,6 @@
 -- How long a record is.
-use Prim.Native.Nat.{ℕ, _+_, _-_, _*_, _/_, _≤_, _<_}
-use mathlib.Core.Path.{_≡_, sym, ap, _∙_}
+use Prim.Native.Nat.{ℕ, zero, suc, _+_, _-_, _*_, _/_, _≤_, _<_}
+use mathlib.Core.Path.{_≡_, refl, ap}
 use native.Mathlib.Nat.{mul-le-mul}
 use native.Mathlib.Omega.{arith}
 use borrow.Author.Tests.{le-leb, lt-leb}
@@ -9,6 +9,7 @@ use mir.Syntax.{w32}
 use Rattle.laws.specs.Test.{both, unless}
 use Rattle.graph.specs.WellFormed.{orderFits}
 use Rattle.graph.specs.Pairs.{pairCount}
+use Rattle.graph.proofs.PairLaws.{pairCount-suc}
 use Rattle.record.specs.Layout.{bitCount, byteCount}
 use Rattle.record.specs.Answers.{extent, sizeAnswer}
 
@@ -41,3 +42,33 @@ size-above n l h = rw (le-leb 1 n l, lt-leb n 32 h)
 pub size-given : (n b : ℕ) → 1 ≤ n → n ≤ 32 → b ≡ byteCount n → extent 0 0 b ≡ sizeAnswer n
 unfolding sizeAnswer orderFits both unless
 size-given n b l h e = rw (le-leb 1 n l, le-leb n 32 h, e)
+
+-- ---- the size in a closed form, and its range
+
+twice-pairs : (k : ℕ) → 2 * pairCount (suc k) ≡ suc k * k
+twice-pairs zero = refl
+twice-pairs (suc k) = omega (arith, twice-pairs k, pairCount-suc (suc k))
+
+-- 6 bits of order, one for each vertex from 2 on, two for each pair
+pub bits-closed : (n : ℕ) → bitCount n ≡ 6 + (n - 1) + n * (n - 1)
+unfolding bitCount
+bits-closed zero = refl
+bits-closed (suc k) =
+    let e : suc k - 1 ≡ k = omega arith in
+    omega (arith, twice-pairs k, ap (λ (x : ℕ). suc k * x) e)
+
+pub bytes-closed : (n : ℕ) → byteCount n ≡ (6 + (n - 1) + n * (n - 1) + 7) / 8
+unfolding byteCount
+bytes-closed n = ap (λ (b : ℕ). (b + 7) / 8) (bits-closed n)
+
+-- a record takes from 1 to 129 bytes
+pub bytes-low : (n : ℕ) → 1 ≤ byteCount n
+unfolding byteCount bitCount
+bytes-low n = omega arith
+
+pub bytes-high : (n : ℕ) → n ≤ 32 → byteCount n ≤ 129
+unfolding byteCount bitCount
+bytes-high n h =
+    let l : n - 1 ≤ 31 = omega arith in
+    let p : n * (n - 1) ≤ 32 * 31 = mul-le-mul h l in
+    omega arith
