@@ -12,3 +12,4 @@ pub mod WriteCases
 pub mod RecordBits
 pub mod WrittenRead
 pub mod ReadWritten
+pub mod Refused
