@@ -4,7 +4,7 @@ use mathlib.Core.Path.{_≡_, refl, sym, ap, _∙_}
 use mathlib.Core.Bool.{Bool, true, false}
 use mathlib.Core.List.{List}
 use native.Mathlib.Omega.{arith}
-use borrow.Author.Tests.{leb-true, eqb-true, eq-eqb, ne-eqb}
+use borrow.Author.Tests.{le-leb, leb-true, eq-eqb, eqb-true, ne-eqb}
 use lib.ListN.{length}
 use lib.Dec.{leb, eqb}
 use Rattle.laws.specs.Test.{pick, unless}
@@ -12,12 +12,11 @@ use Rattle.laws.specs.TestLaws.{pick-true, pick-false}
 use Rattle.graph.specs.declared.Graph.{Graph}
 use Rattle.graph.specs.Answers.{noGraph}
 use Rattle.graph.specs.WellFormed.{orderFits}
-use Rattle.graph.proofs.Formed.{order-in-range}
+use Rattle.graph.proofs.Formed.{order-in-range, order-tested}
 use Rattle.record.specs.declared.Extent.{Extent}
 use Rattle.record.specs.Layout.{byteCount}
 use Rattle.record.specs.Reading.{bitOf, orderIn, refusedIn, padIn, graphIn}
 use Rattle.record.specs.Answers.{extent, recordIn, recordAt, readAnswer}
-use Rattle.record.proofs.RecordCases.{accepted}
 
 -- a record of order n, whose bits f gives, that passes every check where so many bytes are given
 pub record Accepted (f : ℕ → ℕ) (n given : ℕ) : Type 0 where
@@ -54,10 +53,12 @@ is-accepted f n given e =
 
 -- and what is accepted takes the bytes of its order
 pub accepted-at : (s : List ℕ) → Accepted (bitOf s) (orderIn (bitOf s)) (length s) → recordAt s ≡ extent 0 0 (byteCount (orderIn (bitOf s)))
+unfolding recordAt recordIn unless
 accepted-at s a =
-    sym
-    (accepted s (orderIn (bitOf s)) refl (a .some) (a .low) (a .high) (byteCount (orderIn (bitOf s))) refl (a .room)
-    (refusedIn (bitOf s) (orderIn (bitOf s))) refl (a .none-refused) (padIn (bitOf s) (orderIn (bitOf s))) refl (a .pad-clear))
+    rw
+    (le-leb 1 (length s) (a .some), order-tested (orderIn (bitOf s)) (a .low) (a .high),
+    le-leb (byteCount (orderIn (bitOf s))) (length s) (a .room), eq-eqb (refusedIn (bitOf s) (orderIn (bitOf s))) 0 (a .none-refused),
+    eq-eqb (padIn (bitOf s) (orderIn (bitOf s))) 0 (a .pad-clear))
 
 -- ---- the answer of reading
 

@@ -1,6 +1,7 @@
 -- How long a record is.
 use Prim.Native.Nat.{ℕ, zero, suc, _+_, _-_, _*_, _/_, _≤_, _<_}
 use mathlib.Core.Path.{_≡_, refl, ap}
+use mathlib.Core.Bool.{Bool, true, false}
 use native.Mathlib.Nat.{mul-le-mul}
 use native.Mathlib.Omega.{arith}
 use borrow.Author.Tests.{le-leb, lt-leb}
@@ -9,7 +10,9 @@ use mir.Syntax.{w32}
 use Rattle.laws.specs.Test.{both, unless}
 use Rattle.graph.specs.WellFormed.{orderFits}
 use Rattle.graph.specs.Pairs.{pairCount}
+use Rattle.graph.proofs.Formed.{order-in-range}
 use Rattle.graph.proofs.PairLaws.{pairCount-suc}
+use Rattle.record.specs.declared.Extent.{Extent}
 use Rattle.record.specs.Layout.{bitCount, byteCount}
 use Rattle.record.specs.Answers.{extent, sizeAnswer}
 
@@ -42,6 +45,20 @@ size-above n l h = rw (le-leb 1 n l, lt-leb n 32 h)
 pub size-given : (n b : ℕ) → 1 ≤ n → n ≤ 32 → b ≡ byteCount n → extent 0 0 b ≡ sizeAnswer n
 unfolding sizeAnswer orderFits both unless
 size-given n b l h e = rw (le-leb 1 n l, le-leb n 32 h, e)
+
+-- a size that is given
+pub record Given (n : ℕ) (r : Extent) : Type 0 where
+  pub low : 1 ≤ n
+  pub high : n ≤ 32
+  pub whole : r ≡ extent 0 0 (byteCount n)
+
+pub size-found : (n : ℕ) (r : Extent) → r ≡ sizeAnswer n → r .refusal ≡ 0 → Given n r
+unfolding sizeAnswer unless
+size-found n r is-r e = go (orderFits n) refl is-r
+  where
+    go : (t : Bool) → orderFits n ≡ t → r ≡ unless t (extent 2 n 0) (extent 0 0 (byteCount n)) → Given n r
+    go true holds q = record { low = order-in-range n holds .0; high = order-in-range n holds .1; whole = q }
+    go false fails q = absurd (omega (arith, ap (λ (x : Extent). x .refusal) q))
 
 -- ---- the size in a closed form, and its range
 

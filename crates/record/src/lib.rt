@@ -221,14 +221,11 @@ fn record_at(bytes: &[u8]) -> Extent
         return Extent { refusal: 1, place: given, bytes: 0 };
     }
     let order = order_of(bytes);
-    if order < 1 {
-        return Extent { refusal: 2, place: order as usize, bytes: 0 };
+    let whole = size(order);
+    if whole.refusal != 0 {
+        return whole;
     }
-    if 32 < order {
-        return Extent { refusal: 2, place: order as usize, bytes: 0 };
-    }
-    let taken = byte_count(order);
-    if given < taken {
+    if given < whole.bytes {
         return Extent { refusal: 1, place: given, bytes: 0 };
     }
     let refused = first_refused(bytes, order);
@@ -238,7 +235,7 @@ fn record_at(bytes: &[u8]) -> Extent
     if pad_of(bytes, order) != 0 {
         return Extent { refusal: 4, place: 0, bytes: 0 };
     }
-    Extent { refusal: 0, place: 0, bytes: taken }
+    whole
 }
 
 // The number of the pair (i, j).

@@ -1,13 +1,13 @@
-use Rattle.record.proofs.RecordCases.{none-given, order-zero, order-above, runs-past, entry-refused, pad-refused, accepted}
+use Rattle.record.proofs.RecordCases.{none-given, order-refused, none-taken, order-low, order-high, runs-past, entry-refused, pad-refused, pad-passes}
 use borrow.Author.Needs.{needs}
 use Rattle.record.proofs.record_at.Statement.{statement}
 use Rattle.record.proofs.record_at.Tie as tie
 use Rattle.record.proofs.record_at.Reads as reads
 use Rattle.record.proofs.record_at.Lts as lts
-use Rattle.record.proofs.byte_count.Reads as byte-count-reads
 use Rattle.record.proofs.first_refused.Reads as first-refused-reads
 use Rattle.record.proofs.order_of.Reads as order-of-reads
 use Rattle.record.proofs.pad_of.Reads as pad-of-reads
+use Rattle.record.proofs.size.Reads as size-reads
 
 returns : tie.Need-returns
 returns c = search (none-given, needs)
@@ -15,41 +15,32 @@ returns c = search (none-given, needs)
 order-of-requires : tie.Need-order-of-requires
 order-of-requires c κs = search needs
 
+size-requires : tie.Need-size-requires
+size-requires c κs = search needs
+
+returns-2 : tie.Need-returns-2
+returns-2 c = search (order-refused, none-taken, needs)
+
+returns-3 : tie.Need-returns-3
+returns-3 c = search (runs-past, needs)
+
+first-refused-requires : tie.Need-first-refused-requires
+first-refused-requires c κs = search (order-low, order-high, needs)
+
 cast-t7 : tie.Need-cast-t7
 cast-t7 c = search needs
 
-returns-2 : tie.Need-returns-2
-returns-2 c = search (order-zero, needs)
-
-cast-t8 : tie.Need-cast-t8
-cast-t8 c = search needs
-
-returns-3 : tie.Need-returns-3
-returns-3 c = search (order-above, needs)
-
-byte-count-requires : tie.Need-byte-count-requires
-byte-count-requires c κs = search needs
-
 returns-4 : tie.Need-returns-4
-returns-4 c = search (runs-past, needs)
-
-first-refused-requires : tie.Need-first-refused-requires
-first-refused-requires c κs = search needs
-
-cast-t9 : tie.Need-cast-t9
-cast-t9 c = search needs
-
-returns-5 : tie.Need-returns-5
-returns-5 c = search (entry-refused, needs)
+returns-4 c = search (entry-refused, needs)
 
 pad-of-requires : tie.Need-pad-of-requires
-pad-of-requires c κs = search needs
+pad-of-requires c κs = search (order-low, order-high, needs)
+
+returns-5 : tie.Need-returns-5
+returns-5 c = search (pad-refused, needs)
 
 returns-6 : tie.Need-returns-6
-returns-6 c = search (pad-refused, needs)
-
-returns-7 : tie.Need-returns-7
-returns-7 c = search (accepted, needs)
+returns-6 c = search (pad-passes, needs)
 
 pub record-at-spec : {M : Type 1} → statement M
 record-at-spec =
@@ -57,15 +48,12 @@ record-at-spec =
     (tie.spec
     returns
     order-of-requires
-    cast-t7
+    size-requires
     returns-2
-    cast-t8
     returns-3
-    byte-count-requires
-    returns-4
     first-refused-requires
-    cast-t9
-    returns-5
+    cast-t7
+    returns-4
     pad-of-requires
-    returns-6
-    returns-7)
+    returns-5
+    returns-6)
