@@ -1,6 +1,6 @@
 -- Numbers held in bits: a function gives the bit at each place, and the bits of a number stand most significant first.
 use Prim.Native.Nat.{ℕ, zero, suc, _+_, _-_, _*_, _/_, _%_, _^_, _<_}
-use mathlib.Core.Path.{_≡_, refl, sym, ap, ap₂, _∙_}
+use mathlib.Core.Path.{_≡_, refl, sym}
 use mathlib.Core.Logic.{⊎-elim}
 use native.Mathlib.Nat.{eq-or-lt-of-le, le-of-suc-le-suc, not-suc-le-zero}
 use native.Mathlib.Omega.{arith}
@@ -57,6 +57,7 @@ num-own f a (suc w) x h own =
     lower t l =
         let s : suc w - 1 - t ≡ suc (w - 1 - t) = omega arith in
         rw (s, above-lowest) at (own t (omega arith))
+
     last : f (a + w) ≡ x / 2 ^ 0 % 2
     last =
         let s : suc w - 1 - w ≡ 0 = omega arith in

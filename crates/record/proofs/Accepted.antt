@@ -7,7 +7,7 @@ use native.Mathlib.Omega.{arith}
 use borrow.Author.Tests.{le-leb, leb-true, eq-eqb, eqb-true, ne-eqb}
 use lib.ListN.{length}
 use lib.Dec.{leb, eqb}
-use Rattle.laws.specs.Test.{pick, unless}
+use Rattle.laws.specs.Test.{unless}
 use Rattle.laws.specs.TestLaws.{pick-true, pick-false}
 use Rattle.graph.specs.declared.Graph.{Graph}
 use Rattle.graph.specs.Answers.{noGraph}
@@ -55,10 +55,13 @@ is-accepted f n given e =
 pub accepted-at : (s : List ℕ) → Accepted (bitOf s) (orderIn (bitOf s)) (length s) → recordAt s ≡ extent 0 0 (byteCount (orderIn (bitOf s)))
 unfolding recordAt recordIn unless
 accepted-at s a =
-    rw
-    (le-leb 1 (length s) (a .some), order-tested (orderIn (bitOf s)) (a .low) (a .high),
-    le-leb (byteCount (orderIn (bitOf s))) (length s) (a .room), eq-eqb (refusedIn (bitOf s) (orderIn (bitOf s))) 0 (a .none-refused),
-    eq-eqb (padIn (bitOf s) (orderIn (bitOf s))) 0 (a .pad-clear))
+    rw (
+      le-leb 1 (length s) (a .some),
+      order-tested (orderIn (bitOf s)) (a .low) (a .high),
+      le-leb (byteCount (orderIn (bitOf s))) (length s) (a .room),
+      eq-eqb (refusedIn (bitOf s) (orderIn (bitOf s))) 0 (a .none-refused),
+      eq-eqb (padIn (bitOf s) (orderIn (bitOf s))) 0 (a .pad-clear),
+    )
 
 -- ---- the answer of reading
 

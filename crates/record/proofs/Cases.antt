@@ -11,7 +11,6 @@ use Rattle.graph.specs.declared.Graph.{Graph}
 use Rattle.graph.specs.Graph.{drawn, placed, mirrored}
 use Rattle.graph.specs.WellFormed.{wellFormed, orderFits, startsFit, rowFits, pairFits}
 use Rattle.graph.specs.Pairs.{pairs, fromRow, alongRow}
-use Rattle.record.specs.declared.Record.{Record}
 use Rattle.record.specs.Layout.{bitCount, byteCount}
 use Rattle.record.specs.Reading.{bitOf, orderIn, startIn, startsIn, numberedIn, entryIn, isRefused, refusedIn, padIn, graphIn}
 use Rattle.record.specs.Writing.{entryBit, recordBit, recordByte, recordOf}
@@ -44,6 +43,7 @@ EachAgrees (c ∷ cs) = Agrees c × EachAgrees cs
 
 pub worked : EachAgrees table
 unfolding both either pick unless allUpTo wordUpTo listUpTo num firstUpTo orElse drawn placed mirrored wellFormed orderFits startsFit rowFits pairFits pairs fromRow alongRow bitCount byteCount bitOf orderIn startIn startsIn numberedIn entryIn isRefused refusedIn padIn graphIn entryBit recordBit recordByte recordOf recordIn recordAt readAnswer bufferAfter
-worked =
-    (record { is-read = refl; is-written = refl },
-    (record { is-read = refl; is-written = refl }, (record { is-read = refl; is-written = refl }, tt)))
+worked = (
+  record { is-read = refl; is-written = refl },
+  (record { is-read = refl; is-written = refl }, (record { is-read = refl; is-written = refl }, tt)),
+)

@@ -62,13 +62,17 @@ module _ (n m row left : ℕ) (at : Left n m row left) where
         low = omega arith;
         high = row-left;
         within =
-          omega
-          (arith, at .within, ap length split, length-append (alongRow row (suc row) (n - row)) (fromRow (suc row) (n - suc row)),
-          alongRow-length row (suc row) (n - row));
+            omega (
+              arith,
+              at .within,
+              ap length split,
+              length-append (alongRow row (suc row) (n - row)) (fromRow (suc row) (n - suc row)),
+              alongRow-length row (suc row) (n - row),
+            );
         same =
-          sym (getD-append-add (alongRow row (suc row) (n - row)) (fromRow (suc row) (n - suc row)) (left - (n - row)) (pair 0 0))
-          ∙ ap (λ (k : ℕ). getD (alongRow row (suc row) (n - row) ++ fromRow (suc row) (n - suc row)) k (pair 0 0)) (sym e)
-          ∙ ap (λ (ks : List Pair). getD ks left (pair 0 0)) (sym split) ∙ at .same;
+            sym (getD-append-add (alongRow row (suc row) (n - row)) (fromRow (suc row) (n - suc row)) (left - (n - row)) (pair 0 0))
+            ∙ ap (λ (k : ℕ). getD (alongRow row (suc row) (n - row) ++ fromRow (suc row) (n - suc row)) k (pair 0 0)) (sym e)
+            ∙ ap (λ (ks : List Pair). getD ks left (pair 0 0)) (sym split) ∙ at .same;
       })
 
   -- in this row

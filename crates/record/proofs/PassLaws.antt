@@ -1,5 +1,5 @@
 -- What each pass of reading finds: the order, the block starts, the first refused entry, the padding.
-use Prim.Native.Nat.{ℕ, _+_, _-_, _*_, _/_, _^_, _≤_, _<_}
+use Prim.Native.Nat.{ℕ, _+_, _-_, _*_, _^_, _≤_, _<_}
 use mathlib.Core.Path.{_≡_, refl, sym, ap, _∙_}
 use mathlib.Core.Bool.{Bool, true, false}
 use mathlib.Core.List.{List}
@@ -35,7 +35,7 @@ word-fits f n w b r m small is-w is-b is-r l h =
     let short : n + 1 ≤ 32 = omega arith in
     record {
       fits =
-        rw (word-more f n w b r is-w is-b is-r) (lt-of-lt-of-le (word-below f (n + 1) (λ k low high. small k)) (pow-mono short));
+          rw (word-more f n w b r is-w is-b is-r) (lt-of-lt-of-le (word-below f (n + 1) (λ k low high. small k)) (pow-mono short));
     }
 
 -- ---- block starts

@@ -1,14 +1,11 @@
 -- Reading then writing: the graph of an accepted record is well formed, and its record is the bytes that were read.
-use Prim.Native.Nat.{ℕ, suc, _+_, _-_, _*_, _/_, _%_, _^_, _≤_, _<_}
-use mathlib.Core.Path.{_≡_, refl, sym, ap, ap₂, _∙_}
-use mathlib.Core.Logic.{⊎-elim}
-use mathlib.Core.Bool.{Bool, true, false}
+use Prim.Native.Nat.{ℕ, _+_, _-_, _*_, _/_, _%_, _^_, _≤_, _<_}
+use mathlib.Core.Path.{_≡_, refl, sym, ap, _∙_}
 use mathlib.Core.List.{List, _++_}
-use native.Mathlib.Nat.{eq-or-lt-of-le}
 use native.Mathlib.Omega.{arith}
 use borrow.Author.Tests.{eq-eqb, eqb-false}
 use lib.Dec.{eqb}
-use lib.ListN.{length, getD, take, drop, length-take, take-append-drop}
+use lib.ListN.{length, getD, take, drop, take-append-drop}
 use lib.Seq.{ext-getD, getD-take, length-take-le}
 use Rattle.laws.specs.TestLaws.{pick-true}
 use Rattle.laws.specs.Compared.{by-below}
@@ -16,8 +13,7 @@ use Rattle.laws.specs.Bit.{bit}
 use Rattle.laws.specs.Num.{num, num-below, num-same, num-bit, num-own, zeros-of-num}
 use Rattle.laws.specs.First.{first-none}
 use Rattle.laws.specs.UpToLaws.{word-bit, word-past}
-use Rattle.graph.specs.declared.Graph.{Graph}
-use Rattle.graph.specs.Graph.{entry, startAt, drawn, mirrored}
+use Rattle.graph.specs.Graph.{drawn}
 use Rattle.graph.specs.Answers.{noGraph}
 use Rattle.graph.specs.WellFormed.{WellFormed}
 use Rattle.graph.specs.Pairs.{Pair, pairCount, number, pairOf, entryAt}
@@ -31,10 +27,10 @@ use Rattle.record.specs.Writing.{entryBit, recordBit, recordOf}
 use Rattle.record.specs.Answers.{recordAt, readAnswer, restOf}
 use Rattle.record.proofs.BitLaws.{bit-small}
 use Rattle.record.proofs.PassLaws.{start-first, start-later, start-at-most}
-use Rattle.record.proofs.WriteLaws.{record-bit-small, bit-of-order, bit-of-start, bit-of-entry, bit-of-pad}
+use Rattle.record.proofs.WriteLaws.{bit-of-order, bit-of-start, bit-of-entry, bit-of-pad}
 use Rattle.record.proofs.SizeLaws.{bytes-low, bytes-high}
-use Rattle.record.proofs.Accepted.{Accepted, is-accepted, accepted-at, read-accepted}
-use Rattle.record.proofs.RecordBits.{bits-in-bytes, record-length, byte-held}
+use Rattle.record.proofs.Accepted.{Accepted, is-accepted, accepted-at}
+use Rattle.record.proofs.RecordBits.{record-length, byte-held}
 
 -- bits that hold an accepted record
 module _ (f : ℕ → ℕ) (small : (k : ℕ) → f k < 2) (given : ℕ) (a : Accepted f (orderIn f) given) where

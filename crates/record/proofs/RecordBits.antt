@@ -5,7 +5,6 @@ use mathlib.Core.List.{List, _++_}
 use native.Mathlib.Omega.{arith}
 use lib.ListN.{length, getD, List·getD-append}
 use Rattle.laws.specs.Bit.{bit}
-use Rattle.laws.specs.UpTo.{listUpTo}
 use Rattle.laws.specs.UpToLaws.{list-length, list-at}
 use Rattle.laws.specs.Num.{num, num-own, num-bit}
 use Rattle.graph.specs.declared.Graph.{Graph}

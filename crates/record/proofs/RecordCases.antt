@@ -59,25 +59,46 @@ module _ (s : List ℕ) (n : ℕ) (is-n : n ≡ orderIn (bitOf s)) (given : 1 �
       pub entry-refused : (refused ≡ 0 → ⊥) → extent 3 refused 0 ≡ recordAt s
       unfolding recordAt recordIn unless
       entry-refused h =
-          rw
-          (← is-n, le-leb 1 (length s) given, order-tested n order-low order-high, ← is-taken,
-          le-leb (whole .bytes) (length s) room, ← is-refused, ne-eqb refused 0 h)
+          rw (
+            ← is-n,
+            le-leb 1 (length s) given,
+            order-tested n order-low order-high,
+            ← is-taken,
+            le-leb (whole .bytes) (length s) room,
+            ← is-refused,
+            ne-eqb refused 0 h,
+          )
 
       module _ (none : refused ≡ 0) (pad : ℕ) (is-pad : pad ≡ padIn (bitOf s) n) where
         pub pad-refused : (pad ≡ 0 → ⊥) → extent 4 0 0 ≡ recordAt s
         unfolding recordAt recordIn unless
         pad-refused h =
-            rw
-            (← is-n, le-leb 1 (length s) given, order-tested n order-low order-high, ← is-taken,
-            le-leb (whole .bytes) (length s) room, ← is-refused, eq-eqb refused 0 none, ← is-pad, ne-eqb pad 0 h)
+            rw (
+              ← is-n,
+              le-leb 1 (length s) given,
+              order-tested n order-low order-high,
+              ← is-taken,
+              le-leb (whole .bytes) (length s) room,
+              ← is-refused,
+              eq-eqb refused 0 none,
+              ← is-pad,
+              ne-eqb pad 0 h,
+            )
 
         pub pad-passes : pad ≡ 0 → whole ≡ recordAt s
         unfolding recordAt recordIn unless
         pad-passes h =
             of-order .whole
-            ∙ rw
-            (← is-n, le-leb 1 (length s) given, order-tested n order-low order-high,
-            le-leb (byteCount n) (length s) (rw is-taken at room), ← is-refused, eq-eqb refused 0 none, ← is-pad, eq-eqb pad 0 h)
+            ∙ rw (
+              ← is-n,
+              le-leb 1 (length s) given,
+              order-tested n order-low order-high,
+              le-leb (byteCount n) (length s) (rw is-taken at room),
+              ← is-refused,
+              eq-eqb refused 0 none,
+              ← is-pad,
+              eq-eqb pad 0 h,
+            )
 
 -- ---- what follows the record
 

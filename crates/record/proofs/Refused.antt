@@ -1,6 +1,6 @@
 -- What a refusal says, and what it leaves.
 use Prim.Native.Nat.{ℕ, suc, _+_, _-_, _*_, _≤_, _<_}
-use mathlib.Core.Path.{_≡_, refl, sym, ap, _∙_}
+use mathlib.Core.Path.{_≡_, refl, ap}
 use mathlib.Core.Bool.{Bool, true, false}
 use mathlib.Core.List.{List, _++_}
 use native.Mathlib.Omega.{arith}
@@ -16,7 +16,6 @@ use Rattle.graph.specs.Answers.{noGraph}
 use Rattle.graph.specs.WellFormed.{wellFormed, orderFits}
 use Rattle.graph.specs.Pairs.{pairCount}
 use Rattle.record.specs.declared.Extent.{Extent}
-use Rattle.record.specs.declared.Written.{Written}
 use Rattle.record.specs.Layout.{bitCount, byteCount}
 use Rattle.record.specs.Reading.{bitOf, orderIn, numberedIn, isRefused, refusedIn, padIn, graphIn}
 use Rattle.record.specs.Writing.{recordOf}

@@ -12,7 +12,6 @@ use lib.ListN.{length, getD, set, drop}
 use lib.Pow.{pow-mono}
 use lib.Seq.{drop-cons, set-at}
 use Rattle.laws.specs.Test.{pick}
-use Rattle.laws.specs.Bit.{bit}
 use Rattle.laws.specs.UpTo.{listUpTo}
 use Rattle.laws.specs.UpToLaws.{list-length}
 use Rattle.laws.specs.Num.{num, num-below}

@@ -1,6 +1,6 @@
 -- Writing then reading: what was written reads as the graph again, whatever stands after it, and what stood after it is handed back.
-use Prim.Native.Nat.{ℕ, suc, _+_, _-_, _*_, _^_, _≤_, _<_}
-use mathlib.Core.Path.{_≡_, refl, sym, ap, ap₂, _∙_}
+use Prim.Native.Nat.{ℕ, _+_, _-_, _*_, _≤_, _<_}
+use mathlib.Core.Path.{_≡_, refl, sym, ap, _∙_}
 use mathlib.Core.Logic.{⊎-elim}
 use mathlib.Core.Bool.{Bool, true, false}
 use mathlib.Core.List.{List, _++_}
@@ -18,13 +18,11 @@ use Rattle.laws.specs.UpToLaws.{word-of-bits}
 use Rattle.graph.specs.declared.Graph.{Graph}
 use Rattle.graph.specs.Graph.{entry, startAt, drawn}
 use Rattle.graph.specs.WellFormed.{WellFormed, wellFormed}
-use Rattle.graph.specs.Pairs.{Pair, pairCount, number, pairOf, entryAt}
+use Rattle.graph.specs.Pairs.{pairCount, number, pairOf, entryAt}
 use Rattle.graph.proofs.PairLaws.{pairOf-number, number-low, number-high}
 use Rattle.graph.proofs.Rows.{starts-below}
 use Rattle.graph.proofs.Formed.{formed}
 use Rattle.graph.proofs.Drawn.{drawn-same, drawn-itself}
-use Rattle.record.specs.declared.Record.{Record}
-use Rattle.record.specs.declared.Extent.{Extent}
 use Rattle.record.specs.Layout.{startPlace, entryPlace, bitCount, byteCount}
 use Rattle.record.specs.Reading.{bitOf, orderIn, startIn, startsIn, numberedIn, entryIn, isRefused, refusedIn, padIn, graphIn}
 use Rattle.record.specs.Writing.{recordBit, recordOf}

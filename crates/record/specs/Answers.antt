@@ -1,6 +1,5 @@
 -- The full answer of each public function, with its refusals by number and place, in the order of their checks.
 use Prim.Native.Nat.{ℕ, _+_, _*_}
-use mathlib.Core.Bool.{Bool}
 use mathlib.Core.List.{List, _++_}
 use lib.ListN.{length, drop}
 use lib.Dec.{leb, eqb}

@@ -1,10 +1,7 @@
-use Rattle.record.proofs.FieldLaws.{field-narrow, field-wide, field-past, field-read}
 use borrow.Author.Needs.{needs}
+use Rattle.record.proofs.FieldLaws.{field-narrow, field-wide, field-past, field-read}
 use Rattle.record.proofs.field.Statement.{statement}
 use Rattle.record.proofs.field.Tie as tie
-use Rattle.record.proofs.field.Reads as reads
-use Rattle.record.proofs.field.Lts as lts
-use Rattle.record.proofs.number_at.Reads as number-at-reads
 
 returns : tie.Need-returns
 returns c = search (field-narrow, needs)

@@ -1,12 +1,7 @@
-use Rattle.record.proofs.Accepted.{order-within, read-accepted, read-refused}
 use borrow.Author.Needs.{needs}
+use Rattle.record.proofs.Accepted.{order-within, read-accepted, read-refused}
 use Rattle.record.proofs.read.Statement.{statement}
 use Rattle.record.proofs.read.Tie as tie
-use Rattle.record.proofs.read.Reads as reads
-use Rattle.record.proofs.read.Lts as lts
-use Rattle.record.proofs.graph_of.Reads as graph-of-reads
-use Rattle.record.proofs.no_graph.Reads as no-graph-reads
-use Rattle.record.proofs.record_at.Reads as record-at-reads
 
 record-at-requires : tie.Need-record-at-requires
 record-at-requires c κs = search needs

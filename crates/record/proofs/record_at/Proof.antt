@@ -1,13 +1,7 @@
-use Rattle.record.proofs.RecordCases.{none-given, order-refused, none-taken, order-low, order-high, runs-past, entry-refused, pad-refused, pad-passes}
 use borrow.Author.Needs.{needs}
+use Rattle.record.proofs.RecordCases.{none-given, order-refused, none-taken, order-low, order-high, runs-past, entry-refused, pad-refused, pad-passes}
 use Rattle.record.proofs.record_at.Statement.{statement}
 use Rattle.record.proofs.record_at.Tie as tie
-use Rattle.record.proofs.record_at.Reads as reads
-use Rattle.record.proofs.record_at.Lts as lts
-use Rattle.record.proofs.first_refused.Reads as first-refused-reads
-use Rattle.record.proofs.order_of.Reads as order-of-reads
-use Rattle.record.proofs.pad_of.Reads as pad-of-reads
-use Rattle.record.proofs.size.Reads as size-reads
 
 returns : tie.Need-returns
 returns c = search (none-given, needs)

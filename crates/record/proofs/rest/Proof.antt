@@ -1,10 +1,7 @@
-use Rattle.record.proofs.RecordCases.{rest-is}
 use borrow.Author.Needs.{needs}
+use Rattle.record.proofs.RecordCases.{rest-is}
 use Rattle.record.proofs.rest.Statement.{statement}
 use Rattle.record.proofs.rest.Tie as tie
-use Rattle.record.proofs.rest.Reads as reads
-use Rattle.record.proofs.rest.Lts as lts
-use Rattle.record.proofs.record_at.Reads as record-at-reads
 
 record-at-requires : tie.Need-record-at-requires
 record-at-requires c κs = search needs

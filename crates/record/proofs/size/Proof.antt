@@ -1,10 +1,7 @@
-use Rattle.record.proofs.SizeLaws.{size-zero, size-above, size-given}
 use borrow.Author.Needs.{needs}
+use Rattle.record.proofs.SizeLaws.{size-zero, size-above, size-given}
 use Rattle.record.proofs.size.Statement.{statement}
 use Rattle.record.proofs.size.Tie as tie
-use Rattle.record.proofs.size.Reads as reads
-use Rattle.record.proofs.size.Lts as lts
-use Rattle.record.proofs.byte_count.Reads as byte-count-reads
 
 returns : tie.Need-returns
 returns c = search (size-zero, needs)

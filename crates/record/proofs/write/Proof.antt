@@ -1,12 +1,7 @@
-use Rattle.record.proofs.WriteCases.{order-low, order-high, write-short, buffer-short, write-done, buffer-done, write-formless, buffer-formless}
 use borrow.Author.Needs.{needs}
+use Rattle.record.proofs.WriteCases.{order-low, order-high, write-short, buffer-short, write-done, buffer-done, write-formless, buffer-formless}
 use Rattle.record.proofs.write.Statement.{statement}
 use Rattle.record.proofs.write.Tie as tie
-use Rattle.record.proofs.write.Reads as reads
-use Rattle.record.proofs.write.Lts as lts
-use Rattle.graph.proofs.Graph.is_well_formed.Reads as is-well-formed-reads
-use Rattle.record.proofs.byte_count.Reads as byte-count-reads
-use Rattle.record.proofs.put.Reads as put-reads
 
 is-well-formed-requires : tie.Need-is-well-formed-requires
 is-well-formed-requires c κs = search needs

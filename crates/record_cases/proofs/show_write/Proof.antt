@@ -1,17 +1,10 @@
-use mathlib.Core.Path.{sym}
 use native.Mathlib.Omega.{arith}
+use mathlib.Core.Path.{sym}
 use lib.ListN.{replicate}
 use lib.Seq.{length-take-le}
 use borrow.Author.Needs.{needs}
 use Rattle.record_cases.proofs.show_write.Statement.{statement}
 use Rattle.record_cases.proofs.show_write.Tie as tie
-use Rattle.record_cases.proofs.show_write.Reads as reads
-use Rattle.record_cases.proofs.show_write.Lts as lts
-use Rattle.record.proofs.write.Reads as write-reads
-use Rattle.record_cases.proofs.byte.Reads as byte-reads
-use Rattle.record_cases.proofs.number.Reads as number-reads
-use Rattle.record_cases.proofs.text.Reads as text-reads
-use Rattle.record_cases.proofs.word.Reads as word-reads
 
 returns : tie.Need-returns
 returns c = search needs
