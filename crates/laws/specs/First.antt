@@ -49,6 +49,7 @@ first-none f (suc n) e m low high =
     go (suc r) b before is-r is-b z = absurd (omega arith)
     go zero false before is-r is-b z = ⊎-elim (λ (q : m ≡ suc n). rw q is-b) (λ (l : m < suc n). before is-r (omega arith)) (eq-or-lt-of-le high)
 
+-- and the other way
 pub none-first : (f : ℕ → Bool) (n : ℕ) → ((m : ℕ) → 1 ≤ m → m ≤ n → f m ≡ false) → firstUpTo f n ≡ 0
 none-first f zero fails = unfold firstUpTo in refl
 none-first f (suc n) fails =

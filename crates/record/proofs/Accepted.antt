@@ -65,17 +65,20 @@ accepted-at s a =
 
 -- ---- the answer of reading
 
+-- an order that is not refused is at most 32
 pub order-within : (s : List ℕ) (r : Extent) → r ≡ recordAt s → r .refusal ≡ 0 → orderIn (bitOf s) ≤ 32
 unfolding recordAt
 order-within s r is-r e =
     is-accepted (bitOf s) (orderIn (bitOf s)) (length s) (sym (ap (λ (x : Extent). x .refusal) is-r) ∙ e) .high
 
+-- an accepted record gives its graph
 pub read-accepted : (s : List ℕ) (r : Extent) (g : Graph) → r ≡ recordAt s → r .refusal ≡ 0 → g ≡ graphIn (bitOf s)
     → record { refusal = r .refusal; place = r .place; graph = g } ≡ readAnswer s
 unfolding readAnswer
 read-accepted s r g is-r e is-g =
     rw (← is-r, pick-true (eqb (r .refusal) 0) (graphIn (bitOf s)) noGraph (eq-eqb (r .refusal) 0 e), is-g)
 
+-- a refused one gives no graph
 pub read-refused : (s : List ℕ) (r : Extent) (g : Graph) → r ≡ recordAt s → (r .refusal ≡ 0 → ⊥) → g ≡ noGraph
     → record { refusal = r .refusal; place = r .place; graph = g } ≡ readAnswer s
 unfolding readAnswer

@@ -44,6 +44,7 @@ number-turn f a t made b is-made is-b = rw (add-one, is-made, is-b)
 pub number-small : (s : List ℕ) (a t made : ℕ) → made ≡ num (bitOf s) a t → t ≤ 7 → made < 128
 number-small s a t made is-made h = rw is-made (lt-of-lt-of-le (num-below (bitOf s) (bit-small s) a t) (pow-mono h))
 
+-- so it is with one bit more
 pub number-turn-small : (s : List ℕ) (a w t made b : ℕ) → made ≡ num (bitOf s) a t → b ≡ bitOf s (a + t) → t < w → w ≤ 7 → 2 * made + b < 128
 number-turn-small s a w t made b is-made is-b l h =
     number-small s a (t + 1) (2 * made + b) (number-turn (bitOf s) a t made b is-made is-b) (omega arith)

@@ -37,10 +37,12 @@ pub record Agrees (c : Case) : Type 0 where
   pub is-read : readAnswer (c .bytes) ≡ record { refusal = 0; place = 0; graph = c .graph }
   pub is-written : bufferAfter (c .graph) (replicate (length (c .bytes)) 0xff) ≡ c .bytes
 
+-- each row of a table agrees
 abbrev pub EachAgrees : List Case → Type 0
 EachAgrees [] = Unit {0}
 EachAgrees (c ∷ cs) = Agrees c × EachAgrees cs
 
+-- each row of this one does
 pub worked : EachAgrees table
 unfolding both either pick unless allUpTo wordUpTo listUpTo num firstUpTo orElse drawn placed mirrored wellFormed orderFits startsFit rowFits pairFits pairs fromRow alongRow bitCount byteCount bitOf orderIn startIn startsIn numberedIn entryIn isRefused refusedIn padIn graphIn entryBit recordBit recordByte recordOf recordIn recordAt readAnswer bufferAfter
 worked = (

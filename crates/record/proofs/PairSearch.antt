@@ -47,9 +47,11 @@ module _ (n m row left : ℕ) (at : Left n m row left) where
       (λ (l : row < n). l)
       (eq-or-lt-of-le (at .high))
 
+  -- fewer rows are left after each
   pub left-falls : n - (row + 1) < n - row
   left-falls = omega (arith, row-left)
 
+  -- the pairs from a row on are those of the row and those of the rows after it
   split : fromRow row (n - row) ≡ alongRow row (suc row) (n - row) ++ fromRow (suc row) (n - suc row)
   split = let e : n - row - 1 ≡ n - suc row = omega arith in fromRow-split row (n - row) ∙ rw e
 

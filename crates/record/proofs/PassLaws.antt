@@ -40,14 +40,17 @@ word-fits f n w b r m small is-w is-b is-r l h =
 
 -- ---- block starts
 
+-- vertex 1 starts a block
 pub start-first : (f : ℕ → ℕ) (v : ℕ) → v ≡ 1 → 1 ≡ startIn f v
 unfolding startIn
 start-first f v e = sym (pick-true (eqb v 1) 1 (f (6 + (v - 2))) (eq-eqb v 1 e))
 
+-- a later vertex goes by its bit
 pub start-later : (f : ℕ → ℕ) (v b : ℕ) → (v ≡ 1 → ⊥) → b ≡ f (6 + (v - 2)) → b ≡ startIn f v
 unfolding startIn
 start-later f v b e is-b = is-b ∙ sym (pick-false (eqb v 1) 1 (f (6 + (v - 2))) (ne-eqb v 1 e))
 
+-- a start is 0 or 1
 pub start-at-most : (f : ℕ → ℕ) → ((k : ℕ) → f k < 2) → (v : ℕ) → startIn f v ≤ 1
 unfolding startIn pick
 start-at-most f small v = go (eqb v 1) (f (6 + (v - 2))) (small (6 + (v - 2)))
@@ -56,32 +59,39 @@ start-at-most f small v = go (eqb v 1) (f (6 + (v - 2))) (small (6 + (v - 2)))
     go true b h = omega arith
     go false b h = omega arith
 
+-- so it is in bytes
 pub start-small : (s : List ℕ) (v : ℕ) → startIn (bitOf s) v ≤ 1
 start-small s = start-at-most (bitOf s) (bit-small s)
 
+-- the starts are read whole
 pub starts-done : (f : ℕ → ℕ) (m n w : ℕ) → w ≡ wordUpTo (startIn f) m → m ≤ n → n ≤ m → w ≡ startsIn f n
 unfolding startsIn
 starts-done f m n w e l h = word-done (startIn f) m n w e l h
 
 -- ---- refused entries
 
+-- the code refuses 11
 pub refused-is : (f : ℕ → ℕ) (n m r : ℕ) → r ≡ num f (6 + (n - 1) + 2 * (m - 1)) 2 → eqb r 3 ≡ isRefused f n m
 unfolding isRefused numberedIn
 refused-is f n m r e = ap (λ (x : ℕ). eqb x 3) e
 
+-- before the first pair none is refused
 pub refused-starts : (f : ℕ → ℕ) (n : ℕ) → firstUpTo (isRefused f n) 0 ≡ 0
 unfolding firstUpTo
 refused-starts f n = refl
 
+-- nor after one that is not
 pub refused-more : (f : ℕ → ℕ) (n m : ℕ) (b : Bool) → firstUpTo (isRefused f n) m ≡ 0 → b ≡ isRefused f n (m + 1) → b ≡ false → firstUpTo (isRefused f n) (m + 1) ≡ 0
 refused-more f n m b none is-b fails = rw add-one (first-more (isRefused f n) m none (rw (← add-one) (sym is-b ∙ fails)))
 
+-- the first that is refused is found
 pub refused-found : (f : ℕ → ℕ) (n m count : ℕ) (b : Bool) → firstUpTo (isRefused f n) m ≡ 0 → b ≡ isRefused f n (m + 1) → b ≡ true → m < count → count ≡ pairCount n
     → m + 1 ≡ refusedIn f n
 unfolding refusedIn
 refused-found f n m count b none is-b holds l is-count =
     rw (add-one, ← is-count) (sym (first-stop (isRefused f n) count m none (rw (← add-one) (sym is-b ∙ holds)) l))
 
+-- after the last pair there is none
 pub refused-none : (f : ℕ → ℕ) (n m count : ℕ) → firstUpTo (isRefused f n) m ≡ 0 → m ≤ count → count ≤ m → count ≡ pairCount n → 0 ≡ refusedIn f n
 unfolding refusedIn
 refused-none f n m count none l h is-count =
@@ -95,10 +105,12 @@ pub pad-room : (n u b : ℕ) → u ≡ bitCount n → b ≡ byteCount n → u �
 unfolding byteCount
 pad-room n u b e d = omega arith
 
+-- and at most 7
 pub pad-short : (n u b : ℕ) → u ≡ bitCount n → b ≡ byteCount n → 8 * b - u ≤ 7
 unfolding byteCount
 pad-short n u b e d = omega arith
 
+-- they are the padding
 pub pad-is : (f : ℕ → ℕ) (n u b r : ℕ) → u ≡ bitCount n → b ≡ byteCount n → r ≡ num f u (8 * b - u) → r ≡ padIn f n
 unfolding padIn
 pad-is f n u b r e d is-r = rw (← e, ← d) is-r

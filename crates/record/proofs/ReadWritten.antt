@@ -42,6 +42,7 @@ module _ (f : ℕ → ℕ) (small : (k : ℕ) → f k < 2) (given : ℕ) (a : Ac
       let never = eqb-false (numberedIn f (orderIn f) m) 3 (first-none (isRefused f (orderIn f)) (pairCount (orderIn f)) (a .none-refused) m l h) in
       omega arith
 
+  -- nor by its pair
   entries-small : (i j : ℕ) → 1 ≤ i → i < j → j ≤ orderIn f → entryIn f (orderIn f) i j ≤ 2
   unfolding entryIn
   entries-small i j l m h =
@@ -58,12 +59,14 @@ module _ (f : ℕ → ℕ) (small : (k : ℕ) → f k < 2) (given : ℕ) (a : Ac
 
   -- ---- its record has the bits that were read
 
+  -- the bits of the order
   order-same : (k : ℕ) → k < 6 → recordBit (graphIn f) k ≡ f k
   unfolding graphIn drawn orderIn
   order-same k h =
       let e : 0 + k ≡ k = omega arith in
       sym (bit-of-order (graphIn f) k h) ∙ num-bit f small 0 6 k h ∙ ap f e
 
+  -- the bits of the block starts
   start-same : (k : ℕ) → 6 ≤ k → k < 6 + (orderIn f - 1) → recordBit (graphIn f) k ≡ f k
   unfolding graphIn drawn startsIn
   start-same k l h =
@@ -85,6 +88,7 @@ module _ (f : ℕ → ℕ) (small : (k : ℕ) → f k < 2) (given : ℕ) (a : Ac
           (k .column) (b .from-low) (omega arith) (omega arith) (b .to-high)
           ∙ mirrored-above (entryIn f (orderIn f)) (k .row) (k .column) (b .rising) ∙ ap (numberedIn f (orderIn f)) e
 
+  -- the bits of the entries
   entry-same : (k : ℕ) → 6 ≤ k → 6 + (orderIn f - 1) ≤ k → k < bitCount (orderIn f) → recordBit (graphIn f) k ≡ f k
   unfolding graphIn drawn entryBit numberedIn bitCount
   entry-same k past l h =
@@ -95,6 +99,7 @@ module _ (f : ℕ → ℕ) (small : (k : ℕ) → f k < 2) (given : ℕ) (a : Ac
       ∙ ap (λ (x : ℕ). bit x (1 - t % 2)) (numbered-same m (omega arith) (omega arith))
       ∙ num-bit f small (entryPlace (orderIn f) m) 2 (t % 2) (omega arith) ∙ ap f place
 
+  -- the padding
   pad-same : (k : ℕ) → bitCount (orderIn f) ≤ k → k < 8 * byteCount (orderIn f) → recordBit (graphIn f) k ≡ f k
   unfolding graphIn drawn padIn bitCount
   pad-same k l h =
@@ -103,6 +108,7 @@ module _ (f : ℕ → ℕ) (small : (k : ℕ) → f k < 2) (given : ℕ) (a : Ac
       ∙ sym (zeros-of-num f (bitCount (orderIn f)) (8 * byteCount (orderIn f) - bitCount (orderIn f)) (a .pad-clear) (k - bitCount (orderIn f)) (omega arith))
       ∙ ap f e
 
+  -- each bit
   bit-same : (k : ℕ) → k < 8 * byteCount (orderIn f) → recordBit (graphIn f) k ≡ f k
   bit-same k h =
       by-below k 6 (order-same k)
@@ -128,18 +134,22 @@ byte-bits s b k =
     rw (q, r))
 
 module _ (s : List ℕ) (fine : (readAnswer s) .refusal ≡ 0) where
+  -- the record was accepted
   found : Accepted (bitOf s) (orderIn (bitOf s)) (length s)
   unfolding readAnswer recordAt
   found = is-accepted (bitOf s) (orderIn (bitOf s)) (length s) fine
 
+  -- its graph is the one in its bits
   graph-is : (readAnswer s) .graph ≡ graphIn (bitOf s)
   unfolding readAnswer
   graph-is = pick-true (eqb ((recordAt s) .refusal) 0) (graphIn (bitOf s)) noGraph (eq-eqb ((recordAt s) .refusal) 0 fine)
 
+  -- what follows it starts after its bytes
   rest-is : restOf s ≡ drop (byteCount (orderIn (bitOf s))) s
   unfolding restOf
   rest-is = ap (λ (x : Extent). drop (x .bytes) s) (accepted-at s found)
 
+  -- its bytes are the record of its graph
   record-is : Bytes s → recordOf (graphIn (bitOf s)) ≡ take (byteCount (orderIn (bitOf s))) s
   unfolding graphIn drawn
   record-is b =

@@ -74,10 +74,12 @@ module _ (g : Graph) where
 
   -- ---- the bytes
 
+  -- there are as many as the order asks
   pub record-length : length (recordOf g) ≡ byteCount (g .order)
   unfolding recordOf
   record-length = list-length (recordByte g) (byteCount (g .order))
 
+  -- each holds eight bits
   pub byte-held : (k : ℕ) → k < byteCount (g .order) → getD (recordOf g) k 0 ≡ num (recordBit g) (8 * k) 8
   unfolding recordOf recordByte
   byte-held k h =

@@ -16,11 +16,13 @@ use Rattle.record.specs.Reading.{bitOf, orderIn, refusedIn, padIn}
 use Rattle.record.specs.Answers.{extent, sizeAnswer, recordIn, recordAt, restOf}
 use Rattle.record.proofs.SizeLaws.{Given, size-found}
 
+-- no byte is given
 pub none-given : (s : List ℕ) → length s < 1 → extent 1 (length s) 0 ≡ recordAt s
 unfolding recordAt recordIn unless
 none-given s h = rw (lt-leb 1 (length s) h)
 
 module _ (s : List ℕ) (n : ℕ) (is-n : n ≡ orderIn (bitOf s)) (given : 1 ≤ length s) (whole : Extent) (is-whole : whole ≡ sizeAnswer n) where
+  -- the order is out of range
   pub order-refused : (whole .refusal ≡ 0 → ⊥) → whole ≡ recordAt s
   unfolding sizeAnswer recordAt recordIn unless
   order-refused h = go (orderFits n) refl is-whole
@@ -29,6 +31,7 @@ module _ (s : List ℕ) (n : ℕ) (is-n : n ≡ orderIn (bitOf s)) (given : 1 �
       go true holds q = absurd (h (ap (λ (x : Extent). x .refusal) q))
       go false fails q = q ∙ rw (← is-n, le-leb 1 (length s) given, fails)
 
+  -- it takes no bytes then
   pub none-taken : (whole .refusal ≡ 0 → ⊥) → whole .bytes ≤ length s
   unfolding sizeAnswer unless
   none-taken h = go (orderFits n) is-whole
@@ -102,6 +105,7 @@ module _ (s : List ℕ) (n : ℕ) (is-n : n ≡ orderIn (bitOf s)) (given : 1 �
 
 -- ---- what follows the record
 
+-- the rest of the slice after the record is what follows
 pub rest-is : (s : List ℕ) (r : Extent) → r ≡ recordAt s → take (length s - r .bytes) (drop (r .bytes) s) ≡ restOf s
 unfolding restOf
 rest-is s r e = take-all (length s - r .bytes) (drop (r .bytes) s) (rw length-drop (omega arith)) ∙ ap (λ (x : Extent). drop (x .bytes) s) e

@@ -33,6 +33,7 @@ unfolding NoneTaken unless
 check true a b none rest = rest
 check false a b none rest = λ r. none
 
+-- at every record
 none-taken : (f : ℕ → ℕ) (n given : ℕ) → NoneTaken (recordIn f n given)
 unfolding NoneTaken recordIn
 none-taken f n given =
@@ -60,6 +61,7 @@ pub record FirstRefused (f : ℕ → ℕ) (n m : ℕ) : Type 0 where
   pub is-refused : numberedIn f n m ≡ 3
   pub none-before : (k : ℕ) → 1 ≤ k → k < m → numberedIn f n k ≡ 3 → ⊥
 
+-- what reading finds is the first
 pub first-refused : (f : ℕ → ℕ) (n k : ℕ) → refusedIn f n ≡ suc k → FirstRefused f n (suc k)
 unfolding refusedIn isRefused
 first-refused f n k e =
@@ -78,6 +80,7 @@ pad-zeros f n e k l h =
     let place : bitCount n + (k - bitCount n) ≡ k = omega arith in
     rw place at (zeros-of-num f (bitCount n) (8 * byteCount n - bitCount n) e (k - bitCount n) (omega arith))
 
+-- the other way
 pub zeros-pad : (f : ℕ → ℕ) (n : ℕ) → ((k : ℕ) → bitCount n ≤ k → k < 8 * byteCount n → f k ≡ 0) → padIn f n ≡ 0
 unfolding padIn
 zeros-pad f n zeros =
@@ -85,6 +88,7 @@ zeros-pad f n zeros =
 
 -- ---- writing
 
+-- the buffer by the checks one after the other
 stays : (t u : Bool) (size : ℕ) (out after : List ℕ) → ((unless t (written 8 0) (unless u (written 6 0) (written 0 size))) .refusal ≡ 0 → ⊥)
     → unless t out (unless u out after) ≡ out
 unfolding unless

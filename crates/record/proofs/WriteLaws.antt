@@ -25,13 +25,16 @@ use Rattle.record.proofs.BitLaws.{number-turn}
 -- ---- a bit of an entry
 
 module _ (g : Graph) (t i j e : ℕ) (at : IsPairOf (g .order) (t / 2 + 1) i j) (is-e : e ≡ entryIn (g .edges) (g .unknowns) i j) (small : e ≤ 3) where
+  -- the entry that the code reads is that of the pair
   its-entry : e ≡ entryAt g (pairOf (g .order) (t / 2 + 1))
   its-entry = is-e ∙ ap₂ (λ (x y : ℕ). entry g x y) (at .is-row) (at .is-column)
 
+  -- its first bit is its half
   pub entry-first : t % 2 ≡ 0 → e / 2 ≡ entryBit g t
   unfolding entryBit
   entry-first z = rw (z, ← its-entry) (omega arith)
 
+  -- its second bit is its remainder by 2
   pub entry-second : (t % 2 ≡ 0 → ⊥) → e % 2 ≡ entryBit g t
   unfolding entryBit
   entry-second z =
@@ -41,6 +44,7 @@ module _ (g : Graph) (t i j e : ℕ) (at : IsPairOf (g .order) (t / 2 + 1) i j) 
 -- ---- the bit at a place
 
 module _ (g : Graph) (k : ℕ) where
+  -- the order comes first
   pub bit-of-order : k < 6 → g .order / 2 ^ (5 - k) % 2 ≡ recordBit g k
   unfolding recordBit pick
   bit-of-order h = rw (lt-ltb k 6 h)
@@ -70,22 +74,26 @@ entry-within n k b is-b h l = omega arith
 
 -- ---- a byte
 
+-- a choice of two bits is a bit
 small-pick : (t : Bool) (x y : ℕ) → x < 2 → y < 2 → pick t x y < 2
 unfolding pick
 small-pick true x y h l = h
 small-pick false x y h l = l
 
+-- a bit of a record is 0 or 1
 pub record-bit-small : (g : Graph) (k : ℕ) → recordBit g k < 2
 unfolding recordBit entryBit
 record-bit-small g k =
     small-pick (ltb k 6) _ _ (omega arith)
     (small-pick (ltb k (entryPlace (g .order) 1)) _ _ (omega arith) (small-pick (ltb k (bitCount (g .order))) _ _ (omega arith) (omega arith)))
 
+-- up to 8 bits make a number below 256
 pub byte-turn-small : (g : Graph) (a t made b : ℕ) → made ≡ num (recordBit g) a t → b ≡ recordBit g (a + t) → t < 8 → 2 * made + b < 256
 byte-turn-small g a t made b is-made is-b h =
     rw (number-turn (recordBit g) a t made b is-made is-b)
     (lt-of-lt-of-le (num-below (recordBit g) (record-bit-small g) a (t + 1)) (pow-mono {j = 8} (omega arith)))
 
+-- eight bits are a byte
 pub byte-done : (g : Graph) (k t made : ℕ) → made ≡ num (recordBit g) (8 * k) t → t ≤ 8 → 8 ≤ t → made ≡ recordByte g (k + 1)
 unfolding recordByte
 byte-done g k t made is-made l h =
@@ -94,10 +102,12 @@ byte-done g k t made is-made l h =
 
 -- ---- a buffer that is filled from the front
 
+-- with nothing stored it is as it was
 pub filled-starts : (f : ℕ → ℕ) (d : List ℕ) → d ≡ listUpTo f 0 ++ drop 0 d
 unfolding listUpTo
 filled-starts f d = refl
 
+-- one byte more
 pub filled-turns : (f : ℕ → ℕ) (k v size n : ℕ) (out d : List ℕ) → out ≡ listUpTo f k ++ drop k d → v ≡ f (k + 1) → k < size → size ≡ n → n ≤ length d
     → set out k v ≡ listUpTo f (k + 1) ++ drop (k + 1) d
 unfolding listUpTo
@@ -106,6 +116,7 @@ filled-turns f k v size n out d is-out is-v l is-size room =
     (set-at (listUpTo f k) (getD d k 0) (drop (suc k) d) (f (suc k)) k (list-length f k)
     ∙ sym (append-assoc (listUpTo f k) (f (suc k) ∷ []) (drop (suc k) d)))
 
+-- the whole record
 pub filled-done : (g : Graph) (k size : ℕ) (out d : List ℕ) → out ≡ listUpTo (recordByte g) k ++ drop k d → k ≤ size → size ≤ k → size ≡ byteCount (g .order)
     → out ≡ recordOf g ++ drop (byteCount (g .order)) d
 unfolding recordOf

@@ -37,12 +37,14 @@ module _ (g : Graph) (w : WellFormed g) (f : ℕ → ℕ) (held : (k : ℕ) → 
   same-number : (a n : ℕ) → a + n ≤ 8 * byteCount (g .order) → num f a n ≡ num (recordBit g) a n
   same-number a n h = num-same f (recordBit g) a a n (λ t l. held (a + t) (omega arith))
 
+  -- the order
   order-read : orderIn f ≡ g .order
   unfolding orderIn bitCount
   order-read =
       same-number 0 6 (omega (arith, bits-in-bytes (g .order)))
       ∙ order-held g (omega (arith, w .order-high))
 
+  -- the block start of a vertex
   start-read : (v : ℕ) → 1 ≤ v → v ≤ g .order → startIn f v ≡ bit (g .starts) (v - 1)
   unfolding bitCount
   start-read v l h =
@@ -53,22 +55,26 @@ module _ (g : Graph) (w : WellFormed g) (f : ℕ → ℕ) (held : (k : ℕ) → 
       ∙ held (startPlace v) (omega (arith, bits-in-bytes (g .order))) ∙ start-held g v m h)
       (eq-or-lt-of-le l)
 
+  -- all block starts
   starts-read : startsIn f (g .order) ≡ g .starts
   unfolding startsIn
   starts-read = word-of-bits (startIn f) (g .order) (g .starts) (starts-below g w) start-read
 
+  -- the entry of a pair by its number
   numbered-read : (m : ℕ) → 1 ≤ m → m ≤ pairCount (g .order) → numberedIn f (g .order) m ≡ entryAt g (pairOf (g .order) m)
   unfolding numberedIn bitCount
   numbered-read m l h =
       same-number (entryPlace (g .order) m) 2 (omega (arith, bits-in-bytes (g .order)))
       ∙ entry-held g m (w .order-low) l h
 
+  -- and by the pair
   entry-read : (i j : ℕ) → 1 ≤ i → i < j → j ≤ g .order → entryIn f (g .order) i j ≡ entry g i j
   unfolding entryIn
   entry-read i j l m h =
       numbered-read (number (g .order) i j) (number-low (g .order) i j m) (number-high (g .order) i j l m h)
       ∙ ap (entryAt g) (pairOf-number (g .order) i j l m h)
 
+  -- no entry is 11
   none-refused : refusedIn f (g .order) ≡ 0
   unfolding refusedIn isRefused
   none-refused =
@@ -76,12 +82,14 @@ module _ (g : Graph) (w : WellFormed g) (f : ℕ → ℕ) (held : (k : ℕ) → 
       (λ m l h. ne-eqb (numberedIn f (g .order) m) 3
       (λ e. omega (arith, numbered-read m l h, w .not-both ((pairOf (g .order) m) .row) ((pairOf (g .order) m) .column))))
 
+  -- the padding is clear
   pad-read : padIn f (g .order) ≡ 0
   unfolding padIn
   pad-read =
       num-of-zeros f (bitCount (g .order)) (8 * byteCount (g .order) - bitCount (g .order))
       (λ t h. held (bitCount (g .order) + t) (omega arith) ∙ pad-held g (bitCount (g .order) + t) (w .order-low) (omega arith))
 
+  -- so the graph is the same
   graph-read : graphIn f ≡ g
   unfolding graphIn
   graph-read =
@@ -96,6 +104,7 @@ module _ (g : Graph) (w : WellFormed g) (after : List ℕ) where
   order-found : orderIn (bitOf (recordOf g ++ after)) ≡ g .order
   order-found = order-read g w (bitOf (recordOf g ++ after)) (bits-held g after)
 
+  -- the record passes every check
   written-accepted : Accepted (bitOf (recordOf g ++ after)) (g .order) (length (recordOf g ++ after))
   unfolding byteCount bitCount
   written-accepted =
@@ -130,6 +139,7 @@ module _ (g : Graph) (w : WellFormed g) (after : List ℕ) where
 
 -- ---- the same of a buffer that was written to
 
+-- where both checks pass
 passes : (t u : Bool) (size : ℕ) → (unless t (written 8 0) (unless u (written 6 0) (written 0 size))) .refusal ≡ 0 → (t ≡ true) × (u ≡ true)
 unfolding unless
 passes true true size e = (refl, refl)
@@ -137,6 +147,7 @@ passes true false size e = absurd (omega arith)
 passes false u size e = absurd (omega arith)
 
 module _ (g : Graph) (out : List ℕ) (fine : (writeAnswer g out) .refusal ≡ 0) where
+  -- the graph is well formed and the buffer has room
   tests : (wellFormed g ≡ true) × (leb (byteCount (g .order)) (length out) ≡ true)
   unfolding writeAnswer
   tests = passes (wellFormed g) (leb (byteCount (g .order)) (length out)) (byteCount (g .order)) fine

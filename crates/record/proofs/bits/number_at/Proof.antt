@@ -1,3 +1,4 @@
+-- After t turns the number is that of the first t bits.
 use Prim.Native.Nat.{_≤_, _<_, _-_}
 use mathlib.Core.Path.{_≡_}
 use borrow.Author.Needs.{needs}

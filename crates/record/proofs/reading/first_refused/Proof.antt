@@ -1,3 +1,4 @@
+-- After m turns none of the pairs 1..m is refused.
 use Prim.Native.Nat.{_≤_, _-_}
 use mathlib.Core.Path.{_≡_}
 use borrow.Author.Needs.{needs}

@@ -1,3 +1,4 @@
+-- After j turns the row has its first j columns.
 use Prim.Native.Nat.{_≤_, _-_}
 use mathlib.Core.Path.{_≡_}
 use borrow.Author.Needs.{needs}

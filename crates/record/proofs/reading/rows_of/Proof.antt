@@ -1,3 +1,4 @@
+-- After i turns the first i rows are there, and zeros.
 use Prim.Native.Nat.{_≤_, _-_}
 use mathlib.Core.Path.{_≡_}
 use borrow.Author.Needs.{needs}

@@ -1,3 +1,4 @@
+-- After v turns the word has the starts of vertices 1..v.
 use Prim.Native.Nat.{_≤_, _-_}
 use mathlib.Core.Path.{_≡_}
 use borrow.Author.Needs.{needs}

@@ -1,3 +1,4 @@
+-- At each row the pair sought is the one after what is left of the pairs from that row on.
 use Prim.Native.Nat.{_-_}
 use borrow.Author.Needs.{needs}
 use Rattle.record.proofs.PairSearch.{Left, left-starts, left-falls, left-turns, left-done}

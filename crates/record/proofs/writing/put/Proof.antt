@@ -1,3 +1,4 @@
+-- After k turns the buffer has the first k bytes of the record, and then what it had.
 use Prim.Native.Nat.{_-_, _≤_}
 use mathlib.Core.List.{_++_}
 use mathlib.Core.Path.{_≡_}
