@@ -23,9 +23,9 @@ use Rattle.record.proofs.BitLaws.{bit-small}
 -- ---- one bit of an entry
 
 -- the bit that the code reads is that of the pair
-pub mark-is : (f : ℕ → ℕ) (n m d i j b : ℕ) → m ≡ number n i j → b ≡ f (6 + (n - 1) + 2 * (m - 1) + d) → b ≡ markIn f n d i j
+pub mark-is : (f : ℕ → ℕ) (n m place d i j b : ℕ) → m ≡ number n i j → place ≡ entryPlace n m → b ≡ f (place + d) → b ≡ markIn f n d i j
 unfolding markIn
-mark-is f n m d i j b is-m is-b = rw (← is-m) is-b
+mark-is f n m place d i j b is-m is-place is-b = rw (← is-m, ← is-place) is-b
 
 -- above the diagonal it is that of (i, j)
 pub above-diagonal : (e : ℕ → ℕ → ℕ) (i j b : ℕ) → i < j → b ≡ e i j → b ≡ mirrored e i j

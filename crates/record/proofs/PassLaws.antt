@@ -19,7 +19,7 @@ use Rattle.laws.specs.Loops.{word-turns, word-done}
 use Rattle.laws.specs.Num.{num}
 use Rattle.laws.specs.First.{firstUpTo, first-more, first-stop}
 use Rattle.graph.specs.Pairs.{pairCount}
-use Rattle.record.specs.Layout.{bitCount, byteCount}
+use Rattle.record.specs.Layout.{entryPlace, bitCount, byteCount}
 use Rattle.record.specs.Reading.{bitOf, startIn, startsIn, numberedIn, isRefused, refusedIn, padIn}
 use Rattle.record.proofs.BitLaws.{bit-small}
 
@@ -71,9 +71,9 @@ starts-done f m n w e l h = word-done (startIn f) m n w e l h
 -- ---- refused entries
 
 -- the code refuses 11
-pub refused-is : (f : ℕ → ℕ) (n m r : ℕ) → r ≡ num f (6 + (n - 1) + 2 * (m - 1)) 2 → eqb r 3 ≡ isRefused f n m
+pub refused-is : (f : ℕ → ℕ) (n m place r : ℕ) → place ≡ entryPlace n m → r ≡ num f place 2 → eqb r 3 ≡ isRefused f n m
 unfolding isRefused numberedIn
-refused-is f n m r e = ap (λ (x : ℕ). eqb x 3) e
+refused-is f n m place r is-place e = ap (λ (x : ℕ). eqb x 3) (e ∙ ap (λ (a : ℕ). num f a 2) is-place)
 
 -- before the first pair none is refused
 pub refused-starts : (f : ℕ → ℕ) (n : ℕ) → firstUpTo (isRefused f n) 0 ≡ 0

@@ -67,13 +67,13 @@ module _ (f : ℕ → ℕ) (small : (k : ℕ) → f k < 2) (given : ℕ) (a : Ac
       sym (bit-of-order (graphIn f) k h) ∙ num-bit f small 0 6 k h ∙ ap f e
 
   -- the bits of the block starts
-  start-same : (k : ℕ) → 6 ≤ k → k < 6 + (orderIn f - 1) → recordBit (graphIn f) k ≡ f k
+  start-same : (k : ℕ) → 6 ≤ k → k < entryPlace (orderIn f) 1 → recordBit (graphIn f) k ≡ f k
   unfolding graphIn drawn startsIn
   start-same k l h =
       let v : ℕ = k - 4 in
       let back : k - 5 ≡ v - 1 = omega arith in
       let place : 6 + (v - 2) ≡ k = omega arith in
-      sym (bit-of-start (graphIn f) k l h) ∙ ap (λ (x : ℕ). bit (startsIn f (orderIn f)) x) back
+      sym (bit-of-start (graphIn f) k l (entryPlace (orderIn f) 1) refl h) ∙ ap (λ (x : ℕ). bit (startsIn f (orderIn f)) x) back
       ∙ word-bit (startIn f) (orderIn f) v (λ x y z. start-at-most f small x) (omega arith) (omega arith)
       ∙ sym (start-later f v (f (startPlace v)) (λ (q : v ≡ 1). omega arith) refl) ∙ ap f place
 
@@ -89,13 +89,13 @@ module _ (f : ℕ → ℕ) (small : (k : ℕ) → f k < 2) (given : ℕ) (a : Ac
           ∙ mirrored-above (entryIn f (orderIn f)) (k .row) (k .column) (b .rising) ∙ ap (numberedIn f (orderIn f)) e
 
   -- the bits of the entries
-  entry-same : (k : ℕ) → 6 ≤ k → 6 + (orderIn f - 1) ≤ k → k < bitCount (orderIn f) → recordBit (graphIn f) k ≡ f k
+  entry-same : (k : ℕ) → 6 ≤ k → entryPlace (orderIn f) 1 ≤ k → k < bitCount (orderIn f) → recordBit (graphIn f) k ≡ f k
   unfolding graphIn drawn entryBit numberedIn bitCount
   entry-same k past l h =
-      let t : ℕ = k - (6 + (orderIn f - 1)) in
+      let t : ℕ = k - entryPlace (orderIn f) 1 in
       let m : ℕ = t / 2 + 1 in
       let place : entryPlace (orderIn f) m + t % 2 ≡ k = omega arith in
-      sym (bit-of-entry (graphIn f) k past l (bitCount (orderIn f)) refl (entryBit (graphIn f) t) h refl)
+      sym (bit-of-entry (graphIn f) k past (entryPlace (orderIn f) 1) refl l (bitCount (orderIn f)) refl (entryBit (graphIn f) t) h refl)
       ∙ ap (λ (x : ℕ). bit x (1 - t % 2)) (numbered-same m (omega arith) (omega arith))
       ∙ num-bit f small (entryPlace (orderIn f) m) 2 (t % 2) (omega arith) ∙ ap f place
 
@@ -104,7 +104,7 @@ module _ (f : ℕ → ℕ) (small : (k : ℕ) → f k < 2) (given : ℕ) (a : Ac
   unfolding graphIn drawn padIn bitCount
   pad-same k l h =
       let e : bitCount (orderIn f) + (k - bitCount (orderIn f)) ≡ k = omega arith in
-      sym (bit-of-pad (graphIn f) k (omega arith) (omega arith) (bitCount (orderIn f)) refl l)
+      sym (bit-of-pad (graphIn f) k (omega arith) (entryPlace (orderIn f) 1) refl (omega arith) (bitCount (orderIn f)) refl l)
       ∙ sym (zeros-of-num f (bitCount (orderIn f)) (8 * byteCount (orderIn f) - bitCount (orderIn f)) (a .pad-clear) (k - bitCount (orderIn f)) (omega arith))
       ∙ ap f e
 
@@ -113,8 +113,8 @@ module _ (f : ℕ → ℕ) (small : (k : ℕ) → f k < 2) (given : ℕ) (a : Ac
   bit-same k h =
       by-below k 6 (order-same k)
       (λ (past : 6 ≤ k).
-      by-below k (6 + (orderIn f - 1)) (start-same k past)
-      (λ (later : 6 + (orderIn f - 1) ≤ k).
+      by-below k (entryPlace (orderIn f) 1) (start-same k past)
+      (λ (later : entryPlace (orderIn f) 1 ≤ k).
       by-below k (bitCount (orderIn f)) (entry-same k past later) (λ (l : bitCount (orderIn f) ≤ k). pad-same k l h)))
 
 -- ---- the theorems

@@ -36,16 +36,16 @@ module _ (g : Graph) where
   pub start-held : (v : ℕ) → 2 ≤ v → v ≤ g .order → recordBit g (startPlace v) ≡ startAt (g .starts) v
   start-held v l h =
       let e : 6 + (v - 2) - 5 ≡ v - 1 = omega arith in
-      sym (bit-of-start g (startPlace v) (omega arith) (omega arith)) ∙ ap (λ (k : ℕ). bit (g .starts) k) e
+      sym (bit-of-start g (startPlace v) (omega arith) (entryPlace (g .order) 1) refl (omega arith)) ∙ ap (λ (k : ℕ). bit (g .starts) k) e
 
   -- the bits of the entries
   entry-bit-held : (t : ℕ) → 1 ≤ g .order → t < 2 * pairCount (g .order) → recordBit g (entryPlace (g .order) 1 + t) ≡ entryBit g t
   unfolding bitCount
   entry-bit-held t low h =
       let k : ℕ = entryPlace (g .order) 1 + t in
-      let e : k - (6 + (g .order - 1)) ≡ t = omega arith in
+      let e : k - entryPlace (g .order) 1 ≡ t = omega arith in
       sym
-      (bit-of-entry g k (omega arith) (omega arith) (bitCount (g .order)) refl (entryBit g t) (omega arith)
+      (bit-of-entry g k (omega arith) (entryPlace (g .order) 1) refl (omega arith) (bitCount (g .order)) refl (entryBit g t) (omega arith)
       (ap (entryBit g) (sym e)))
 
   -- bit d of the entry of the pair with number m
@@ -70,7 +70,7 @@ module _ (g : Graph) where
   -- zeros after the last entry
   pub pad-held : (k : ℕ) → 1 ≤ g .order → bitCount (g .order) ≤ k → recordBit g k ≡ 0
   unfolding bitCount
-  pad-held k low h = sym (bit-of-pad g k (omega arith) (omega arith) (bitCount (g .order)) refl h)
+  pad-held k low h = sym (bit-of-pad g k (omega arith) (entryPlace (g .order) 1) refl (omega arith) (bitCount (g .order)) refl h)
 
   -- ---- the bytes
 

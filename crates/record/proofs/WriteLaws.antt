@@ -49,28 +49,29 @@ module _ (g : Graph) (k : ℕ) where
   unfolding recordBit pick
   bit-of-order h = rw (lt-ltb k 6 h)
 
-  module _ (past : 6 ≤ k) where
-    pub bit-of-start : k < 6 + (g .order - 1) → g .starts / 2 ^ (k - 5) % 2 ≡ recordBit g k
+  module _ (past : 6 ≤ k) (first : ℕ) (is-first : first ≡ entryPlace (g .order) 1) where
+    -- then the block starts
+    pub bit-of-start : k < first → g .starts / 2 ^ (k - 5) % 2 ≡ recordBit g k
     unfolding recordBit pick
     bit-of-start h =
         let e : k - 6 + 2 - 1 ≡ k - 5 = omega arith in
-        rw (le-ltb k 6 past, lt-ltb k (entryPlace (g .order) 1) (omega arith), e)
+        rw (le-ltb k 6 past, ← is-first, lt-ltb k first h, e)
 
-    module _ (later : 6 + (g .order - 1) ≤ k) (b : ℕ) (is-b : b ≡ bitCount (g .order)) where
-      pub bit-of-entry : (r : ℕ) → k < b → r ≡ entryBit g (k - (6 + (g .order - 1))) → r ≡ recordBit g k
+    module _ (later : first ≤ k) (b : ℕ) (is-b : b ≡ bitCount (g .order)) where
+      -- then the entries
+      pub bit-of-entry : (r : ℕ) → k < b → r ≡ entryBit g (k - first) → r ≡ recordBit g k
       unfolding recordBit pick
-      bit-of-entry r h is-r =
-          let e : k - entryPlace (g .order) 1 ≡ k - (6 + (g .order - 1)) = omega arith in
-          rw (le-ltb k 6 past, le-ltb k (entryPlace (g .order) 1) (omega arith), ← is-b, lt-ltb k b h, e) is-r
+      bit-of-entry r h is-r = rw (le-ltb k 6 past, ← is-first, le-ltb k first later, ← is-b, lt-ltb k b h) is-r
 
+      -- then zeros
       pub bit-of-pad : b ≤ k → 0 ≡ recordBit g k
       unfolding recordBit pick
-      bit-of-pad h = rw (le-ltb k 6 past, le-ltb k (entryPlace (g .order) 1) (omega arith), ← is-b, le-ltb k b h)
+      bit-of-pad h = rw (le-ltb k 6 past, ← is-first, le-ltb k first later, ← is-b, le-ltb k b h)
 
 -- bits before the padding and past the starts are bits of entries
-pub entry-within : (n k b : ℕ) → b ≡ bitCount n → k < b → 6 + (n - 1) ≤ k → k - (6 + (n - 1)) < 2 * pairCount n
+pub entry-within : (n k first b : ℕ) → first ≡ entryPlace n 1 → b ≡ bitCount n → k < b → first ≤ k → k - first < 2 * pairCount n
 unfolding bitCount
-entry-within n k b is-b h l = omega arith
+entry-within n k first b is-first is-b h l = omega arith
 
 -- ---- a byte
 

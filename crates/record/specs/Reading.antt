@@ -17,6 +17,7 @@ use Rattle.record.specs.Layout.{startPlace, entryPlace, bitCount, byteCo
 unfoldable pub bitOf : List ℕ → ℕ → ℕ
 bitOf s k = getD s (k / 8) 0 / 2 ^ (7 - k % 8) % 2
 
+-- the order
 unfoldable pub orderIn : (ℕ → ℕ) → ℕ
 orderIn f = num f 0 6
 
@@ -24,6 +25,7 @@ orderIn f = num f 0 6
 unfoldable pub startIn : (ℕ → ℕ) → ℕ → ℕ
 startIn f v = pick (eqb v 1) 1 (f (startPlace v))
 
+-- the word of block starts
 unfoldable pub startsIn : (ℕ → ℕ) → ℕ → ℕ
 startsIn f n = wordUpTo (startIn f) n
 
@@ -35,10 +37,11 @@ numberedIn f n m = num f (entryPlace n m) 2
 unfoldable pub entryIn : (ℕ → ℕ) → ℕ → ℕ → ℕ → ℕ
 entryIn f n i j = numberedIn f n (number n i j)
 
--- the number of the first pair whose entry is 11, or 0
+-- is the entry of the pair with number m 11?
 unfoldable pub isRefused : (ℕ → ℕ) → ℕ → ℕ → Bool
 isRefused f n m = eqb (numberedIn f n m) 3
 
+-- the number of the first pair whose entry is 11, or 0
 unfoldable pub refusedIn : (ℕ → ℕ) → ℕ → ℕ
 refusedIn f n = firstUpTo (isRefused f n) (pairCount n)
 
@@ -46,5 +49,6 @@ refusedIn f n = firstUpTo (isRefused f n) (pairCount n)
 unfoldable pub padIn : (ℕ → ℕ) → ℕ → ℕ
 padIn f n = num f (bitCount n) (8 * byteCount n - bitCount n)
 
+-- the graph
 unfoldable pub graphIn : (ℕ → ℕ) → Graph
 graphIn f = drawn (orderIn f) (startsIn f (orderIn f)) (entryIn f (orderIn f))

@@ -1,18 +1,18 @@
 // A record holds a graph in bits, the most significant of a byte first: 6 bits of order, a bit for each vertex from 2
 // on that says whether it starts a block, 2 bits for each pair in row order, and zero bits to the end of the byte.
 mod bits;
+mod layout;
 mod reading;
-mod sizes;
 mod writing;
 
 use bits::number_at;
 use graph::Graph;
+use layout::byte_count;
 use reading::first_refused;
 use reading::graph_of;
 use reading::no_graph;
 use reading::order_of;
 use reading::pad_of;
-use sizes::byte_count;
 use writing::put;
 ghost use mathlib.Core.Path.{_≡_};
 ghost use Prim.Native.Nat.{_≤_};

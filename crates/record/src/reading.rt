@@ -1,10 +1,11 @@
 // The passes of reading: each finds one part of a record that starts at the first of these bytes.
 use crate::bits::bit_after;
 use crate::bits::number_at;
-use crate::sizes::bit_count;
-use crate::sizes::byte_count;
-use crate::sizes::number_of;
-use crate::sizes::pair_count;
+use crate::layout::bit_count;
+use crate::layout::byte_count;
+use crate::layout::entry_place;
+use crate::layout::number_of;
+use crate::layout::pair_count;
 use graph::Graph;
 use graph::inner::weight;
 ghost use mathlib.Core.Path.{_≡_};
@@ -14,6 +15,7 @@ ghost use Rattle.graph.specs.Answers.{noGraph};
 ghost use Rattle.record.specs.Reading.{bitOf, orderIn, startIn, startsIn, isRefused, refusedIn, padIn, graphIn};
 ghost use Rattle.record.specs.Marks.{markIn, rowIn, rowsIn};
 
+// The order.
 pub(crate) fn order_of(bytes: &[u8]) -> u32
     ensures { λ r. ⌜ (r ≡ orderIn (bitOf (now (bytes .entry)))) × (r < 128) ⌝ }
 {
@@ -51,8 +53,7 @@ fn is_refused(bytes: &[u8], order: u32, m: u32) -> bool
     requires { ⌜ (1 ≤ order) × (order ≤ 32) × (1 ≤ m) × (m ≤ 2048) ⌝ }
     ensures { λ r. ⌜ r ≡ isRefused (bitOf (now (bytes .entry))) order m ⌝ }
 {
-    let place = 6 + (order - 1) + 2 * (m - 1);
-    number_at(bytes, place as usize, 2) == 3
+    number_at(bytes, entry_place(order, m), 2) == 3
 }
 
 // The number of the first pair whose entry is refused, 0 where there is none.
@@ -85,8 +86,7 @@ fn mark_of(bytes: &[u8], order: u32, at: usize, i: u32, j: u32) -> u32
     requires { ⌜ (at ≤ 1) × (1 ≤ i) × (i < j) × (j ≤ order) × (order ≤ 32) ⌝ }
     ensures { λ r. ⌜ (r ≡ markIn (bitOf (now (bytes .entry))) order at i j) × (r ≤ 1) ⌝ }
 {
-    let place = 6 + (order - 1) + 2 * (number_of(order, i, j) - 1);
-    bit_after(bytes, place as usize, at)
+    bit_after(bytes, entry_place(order, number_of(order, i, j)), at)
 }
 
 // The same in both halves, 0 on the diagonal.
@@ -132,6 +132,7 @@ fn rows_of(bytes: &[u8], order: u32, at: usize) -> [u32; 32]
     rows
 }
 
+// The graph of a record that was checked.
 pub(crate) fn graph_of(bytes: &[u8]) -> Graph
     requires { ⌜ orderIn (bitOf (now bytes)) ≤ 32 ⌝ }
     ensures { λ r. ⌜ r ≡ graphIn (bitOf (now (bytes .entry))) ⌝ }

@@ -1,6 +1,7 @@
 // The bits and bytes of the record of a graph, and their storing.
-use crate::sizes::bit_count;
-use crate::sizes::byte_count;
+use crate::layout::bit_count;
+use crate::layout::byte_count;
+use crate::layout::entry_place;
 use graph::Graph;
 use graph::inner::entry_in;
 ghost use mathlib.Core.Path.{_≡_};
@@ -11,6 +12,7 @@ ghost use Rattle.graph.specs.Pairs.{pairCount};
 ghost use Rattle.record.specs.Layout.{byteCount};
 ghost use Rattle.record.specs.Writing.{IsPairOf, entryBit, recordBit, recordByte, recordOf};
 
+// Where a pair stands.
 struct Spot {
     row: u32,
     column: u32,
@@ -51,7 +53,7 @@ fn graph_bit(g: Graph, place: usize) -> u32
     if place < 6 {
         return (g.order >> (5 - place)) % 2;
     }
-    let first = (6 + (g.order - 1)) as usize;
+    let first = entry_place(g.order, 1);
     if place < first {
         return (g.starts >> (place - 5)) % 2;
     }

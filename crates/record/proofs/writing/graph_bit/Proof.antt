@@ -15,14 +15,8 @@ shr-result c = search needs
 returns : tie.Need-returns
 returns c = search (bit-of-order, needs)
 
-sub-first : tie.Need-sub-first
-sub-first c = search needs
-
-add-first : tie.Need-add-first
-add-first c = search needs
-
-cast-first : tie.Need-cast-first
-cast-first c = search needs
+entry-place-requires : tie.Need-entry-place-requires
+entry-place-requires c κs = search needs
 
 sub-result-2 : tie.Need-sub-result-2
 sub-result-2 c = search needs
@@ -59,9 +53,7 @@ graph-bit-spec =
     cast-result
     shr-result
     returns
-    sub-first
-    add-first
-    cast-first
+    entry-place-requires
     sub-result-2
     cast-result-2
     shr-result-2

@@ -1,8 +1,8 @@
-// Numbers of pairs, bits and bytes, for an order in range.
+// Where the parts of a record stand and how long it is, for an order in range.
 ghost use mathlib.Core.Path.{_≡_};
 ghost use Prim.Native.Nat.{_*_, _≤_, _<_};
 ghost use Rattle.graph.specs.Pairs.{pairCount, number};
-ghost use Rattle.record.specs.Layout.{bitCount, byteCount};
+ghost use Rattle.record.specs.Layout.{entryPlace, bitCount, byteCount};
 
 // The product of two small numbers.
 fn product(a: u32, b: u32) -> u32
@@ -28,11 +28,20 @@ pub(crate) fn bit_count(order: u32) -> usize
     (6 + (order - 1) + 2 * pair_count(order)) as usize
 }
 
+// How many bytes there are in all.
 pub(crate) fn byte_count(order: u32) -> usize
     requires { ⌜ (1 ≤ order) × (order ≤ 32) ⌝ }
     ensures { λ r. ⌜ (r ≡ byteCount order) × (r ≤ 1000) ⌝ }
 {
     (bit_count(order) + 7) / 8
+}
+
+// The place of the entry of the pair with number m.
+pub(crate) fn entry_place(order: u32, m: u32) -> usize
+    requires { ⌜ (1 ≤ order) × (order ≤ 32) × (1 ≤ m) × (m ≤ 4096) ⌝ }
+    ensures { λ r. ⌜ (r ≡ entryPlace order m) × (r ≤ 10000) ⌝ }
+{
+    (6 + (order - 1) + 2 * (m - 1)) as usize
 }
 
 // The number of the pair (i, j).

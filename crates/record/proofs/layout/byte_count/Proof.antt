@@ -1,7 +1,7 @@
 use borrow.Author.Needs.{needs}
 use Rattle.record.proofs.SizeLaws.{bytes-counted}
-use Rattle.record.proofs.sizes.byte_count.Statement.{statement}
-use Rattle.record.proofs.sizes.byte_count.Tie as tie
+use Rattle.record.proofs.layout.byte_count.Statement.{statement}
+use Rattle.record.proofs.layout.byte_count.Tie as tie
 
 bit-count-requires : tie.Need-bit-count-requires
 bit-count-requires c κs = search needs

@@ -1,7 +1,7 @@
 use borrow.Author.Needs.{needs}
 use Rattle.record.proofs.SizeLaws.{bits-counted}
-use Rattle.record.proofs.sizes.bit_count.Statement.{statement}
-use Rattle.record.proofs.sizes.bit_count.Tie as tie
+use Rattle.record.proofs.layout.bit_count.Statement.{statement}
+use Rattle.record.proofs.layout.bit_count.Tie as tie
 
 sub-result : tie.Need-sub-result
 sub-result c = search needs
