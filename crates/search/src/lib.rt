@@ -1,5 +1,7 @@
 // Judging a partially drawn graph: does some permitted renumbering make it smaller in dictionary order?
 
+mod turns;
+
 // Steps are the beginnings tried.
 pub enum Verdict {
     Smaller { row: u32, column: u32, steps: u32 },
