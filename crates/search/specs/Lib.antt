@@ -2,3 +2,4 @@ pub mod Judging
 pub mod Answer
 pub mod Worked
 pub mod Code
+pub mod Masks
