@@ -1,2 +1,3 @@
 pub mod CodeTurns
 pub mod CodeMasks
+pub mod Masks
