@@ -1,1 +1,2 @@
 pub mod Arrangements
+pub mod Judgements
