@@ -1,2 +1,4 @@
 pub mod Arrangements
 pub mod Judgements
+pub mod Certificates
+pub mod Exact
