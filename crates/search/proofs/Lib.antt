@@ -1,7 +1,9 @@
 pub mod CodeTurns
 pub mod CodeMasks
-pub mod Masks
+pub mod MaskLaws
 pub mod Arrangements
 pub mod Judgements
 pub mod Certificates
 pub mod Exact
+pub mod CodeLast
+pub mod LastJudged
