@@ -36,7 +36,7 @@ zeros-beside g budget room = at (judged-in-words g budget room)
     at (none-smaller w h l nowhere) ne = (refl, refl)
     at (found-smaller w h l f) ne = absurd (ne refl)
 
--- for "smaller" the count is that of the clause's literals, and the buffer has room for them
+-- for "smaller" the count is that of the clause's literals
 pub literals-counted : (g : Graph) (budget room : ℕ) → told (judgeAnswer g budget room .verdict) .code ≡ 1
     → judgeAnswer g budget room .literals ≡ length (clauseOf g (judgeAnswer g budget room .arrangement))
 unfolding told without
@@ -49,6 +49,7 @@ literals-counted g budget room = at (judged-in-words g budget room)
     at (none-smaller w h l nowhere) e = absurd (omega arith)
     at (found-smaller w h l f) e = refl
 
+-- for which the buffer has room
 smaller-room : {g : Graph} {budget room : ℕ} {a : Judged} → InWords g budget room a → told (a .verdict) .code ≡ 1 → pairCount (g .order) ≤ room
 unfolding told without
 smaller-room (malformed no-graph) e = absurd (omega arith)
@@ -57,7 +58,7 @@ smaller-room (cut-off w h l) e = h
 smaller-room (none-smaller w h l nowhere) e = h
 smaller-room (found-smaller w h l f) e = h
 
--- the buffer by the verdict's code
+-- where the code is that of "smaller", the literals stand at the start
 start-smaller : (v : Verdict) (lits buffer : List ℤ) → told v .code ≡ 1 → atStart v lits buffer ≡ lits ++ drop (length lits) buffer
 unfolding told atStart
 start-smaller (Smaller row column steps) lits buffer e = refl
@@ -65,6 +66,7 @@ start-smaller (Nothing steps) lits buffer e = absurd (omega arith)
 start-smaller (Cut steps) lits buffer e = absurd (omega arith)
 start-smaller (Refused number place) lits buffer e = absurd (omega arith)
 
+-- elsewhere nothing is changed
 start-else : (v : Verdict) (lits buffer : List ℤ) → told v .code ≢ 1 → atStart v lits buffer ≡ buffer
 unfolding told atStart
 start-else (Smaller row column steps) lits buffer ne = absurd (ne refl)

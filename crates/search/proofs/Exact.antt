@@ -47,12 +47,14 @@ module _ (g : Graph) (budget room : ℕ) where
   unfolding judgeAnswer
   refused-cramped w h = unless-true (wellFormed g) _ _ (tested g w) ∙ unless-false (leb (pairCount (g .order)) room) _ _ (lt-leb (pairCount (g .order)) room h)
 
+  -- past both checks: what the search finds
   passed : WellFormed g → pairCount (g .order) ≤ room → judgeAnswer g budget room ≡ answerFor g budget (found g budget)
   unfolding judgeAnswer
   passed w h = unless-true (wellFormed g) _ _ (tested g w) ∙ unless-true (leb (pairCount (g .order)) room) _ _ (le-leb (pairCount (g .order)) room h)
 
   -- ---- the answer
 
+  -- which the rules' words tell
   by-found : WellFormed g → pairCount (g .order) ≤ room → InWords g budget room (answerFor g budget (found g budget))
   unfolding found answerFor smaller
   by-found w h = go (found g budget) refl
