@@ -7,3 +7,6 @@ pub mod Certificates
 pub mod Exact
 pub mod CodeLast
 pub mod LastJudged
+pub mod First
+pub mod Count
+pub mod Buffer
