@@ -27,3 +27,6 @@ module _ (e u p : List ℕ) (n k : ℕ) where
     unfolding lastCode walkCode pick
     last-full r z l q = rw (le-ltb k 2 h, eq-eqb (turnAt e u p (pair 1 k)) 0 (sym t ∙ z), le-ltb k n l) q
 
+-- all n places are in range where the path has as many
+pub within-all : (k n : ℕ) (p : List ℕ) → Within k p → k ≤ n → n ≤ k → Within n p
+within-all k n p w a b = let e : k ≡ n = omega arith in rw e at w

@@ -67,11 +67,11 @@ turn-is e w p i j u v a b r own pu pv pa pb po h = h ∙ rw (pa, pb, po, pu, pv)
 
 -- ---- along a row
 
-pub within-low : (n : ℕ) (p : List ℕ) (i : ℕ) → Within n p → 1 ≤ i → i ≤ n → 1 ≤ at p i
-within-low n p i w l h = w .low i l h
+pub within-low : (k : ℕ) (p : List ℕ) (i : ℕ) → Within k p → 1 ≤ i → i ≤ k → 1 ≤ at p i
+within-low k p i w l h = w .low i l h
 
-pub within-high : (n : ℕ) (p : List ℕ) (i : ℕ) → Within n p → 1 ≤ i → i ≤ n → n ≤ 32 → at p i ≤ 32
-within-high n p i w l h k = omega (arith, w .high i l h)
+pub within-high : (k : ℕ) (p : List ℕ) (i : ℕ) → Within k p → 1 ≤ i → i ≤ k → at p i ≤ 32
+within-high k p i w l h = w .high i l h
 
 module _ (t : Pair → ℕ) where
   code-first : (k : Pair) (ks : List Pair) → (t k ≡ 0 → ⊥) → walkCode t (k ∷ ks) ≡ t k

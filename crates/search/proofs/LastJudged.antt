@@ -3,7 +3,7 @@ use Prim.Native.Nat.{ℕ, zero, suc, _-_, _≤_, _<_}
 use native.Mathlib.Nat.{eq-or-lt-of-le}
 use native.Mathlib.Omega.{arith}
 use mathlib.Core.Path.{_≡_, refl, sym, ap, ap₂, _∙_}
-use mathlib.Core.Logic.{⊎-elim}
+use mathlib.Core.Logic.{_≢_, ⊎-elim}
 use mathlib.Core.List.{List, [], _∷_, _++_, List·Memᴰ}
 use lib.Dec.{eqb, ltb}
 use lib.ListN.{length, getD, take, List·getD-append}
@@ -36,6 +36,29 @@ judgementCode Search.«open» = 0
 judgementCode Search.lost = 1
 judgementCode Search.won = 2
 
+-- and back
+pub code-won : (j : Judgement) → judgementCode j ≡ 2 → j ≡ Search.won
+unfolding judgementCode
+code-won Search.won e = refl
+code-won Search.lost e = absurd (omega arith)
+code-won Search.«open» e = absurd (omega arith)
+
+pub code-open : (j : Judgement) → judgementCode j ≡ 0 → j ≡ Search.«open»
+unfolding judgementCode
+code-open Search.won e = absurd (omega arith)
+code-open Search.lost e = absurd (omega arith)
+code-open Search.«open» e = refl
+
+pub code-lost : (j : Judgement) → judgementCode j ≢ 2 → judgementCode j ≢ 0 → j ≡ Search.lost
+unfolding judgementCode
+code-lost Search.won a b = absurd (a refl)
+code-lost Search.lost a b = refl
+code-lost Search.«open» a b = absurd (b refl)
+
+pub code-not-won : (j : Judgement) → judgementCode j ≢ 2 → j ≢ Search.won
+unfolding judgementCode
+code-not-won j a e = a (rw e)
+
 outcomeCode : Outcome Pair → ℕ
 outcomeCode still-open = 0
 outcomeCode lost = 1
@@ -62,7 +85,7 @@ walk-code v img t [] h = refl
 walk-code v img t (k ∷ ks) h =
     ending-code (turn samePair v img k) k (walk samePair v img ks)
     ∙ ap₂ (λ (c r : ℕ). pick (eqb c 0) r c) (each-first (λ j. codeOf (turn samePair v img j) ≡ t j) h)
-      (walk-code v img t ks (each-rest (λ j. codeOf (turn samePair v img j) ≡ t j) h))
+    (walk-code v img t ks (each-rest (λ j. codeOf (turn samePair v img j) ≡ t j) h))
 
 module _ (g : Graph) (formed : WellFormed g) (b path : List ℕ) (v : ℕ) (same : take (suc (length b)) path ≡ b ++ (v ∷ [])) where
   -- the path has b's vertices, then v
@@ -122,8 +145,8 @@ module _ (g : Graph) (formed : WellFormed g) (b path : List ℕ) (v : ℕ) (same
           rw (le-ltb (suc (length b)) 2 (omega arith), le-ltb (suc (length b)) (g .order) (omega arith))
           (ap judgementCode (full-turn g formed b v l (so-far l) k)
           ∙ by-turn (walk samePair (entryAt g) (image (b ++ (v ∷ []))) (fromRow 2 (g .order - 2))) (walkCode (turnAt (g .edges) (g .unknowns) path) (fromRow 2 (g .order - 2)))
-            (walk-code (entryAt g) (image (b ++ (v ∷ []))) (turnAt (g .edges) (g .unknowns) path) (fromRow 2 (g .order - 2))
-            (λ j m. let w = fromRow-given 2 (g .order - 2) j m in turn-path j (omega arith) (omega arith) (omega arith) (omega arith))))
+          (walk-code (entryAt g) (image (b ++ (v ∷ []))) (turnAt (g .edges) (g .unknowns) path) (fromRow 2 (g .order - 2))
+          (λ j m. let w = fromRow-given 2 (g .order - 2) j m in turn-path j (omega arith) (omega arith) (omega arith) (omega arith))))
 
     pub last-judged : judgementCode (judged g (b ++ (v ∷ []))) ≡ lastCode (g .edges) (g .unknowns) path (g .order) (suc (length b))
     unfolding Code

@@ -10,3 +10,5 @@ pub mod LastJudged
 pub mod First
 pub mod Count
 pub mod Buffer
+pub mod Searching
+pub mod CodeSearch

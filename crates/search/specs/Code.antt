@@ -35,10 +35,10 @@ unfoldable pub lastCode : List ℕ → List ℕ → List ℕ → ℕ → ℕ →
 lastCode edges unknowns p n k =
     pick (ltb k 2) 0 (walkCode (turnAt edges unknowns p) (pair 1 k ∷ pick (ltb k n) [] (fromRow 2 (n - 2))))
 
--- each of the first n places of p holds a number of 1..n
-pub record Within (n : ℕ) (p : List ℕ) : Type 0 where
-  pub low : (i : ℕ) → 1 ≤ i → i ≤ n → 1 ≤ at p i
-  pub high : (i : ℕ) → 1 ≤ i → i ≤ n → at p i ≤ n
+-- each of the first k places of p holds a number of 1..32
+pub record Within (k : ℕ) (p : List ℕ) : Type 0 where
+  pub low : (i : ℕ) → 1 ≤ i → i ≤ k → 1 ≤ at p i
+  pub high : (i : ℕ) → 1 ≤ i → i ≤ k → at p i ≤ 32
 
 -- the graph with these rows
 abbrev pub graphIn : ℕ → List ℕ → List ℕ → ℕ → Graph

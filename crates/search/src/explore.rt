@@ -7,9 +7,12 @@ ghost use Rattle.graph.specs.Arrangement.{at};
 ghost use Rattle.graph.specs.WellFormed.{wellFormed};
 ghost use Rattle.search.specs.Judging.{found};
 ghost use Rattle.search.specs.Code.{Within, lastCode, graphIn, foundBy};
-
-use crate::masks::{block_masks, lowest, power, without};
-use crate::turns::{pair_turn, rows_walk};
+use crate::masks::block_masks;
+use crate::masks::lowest;
+use crate::masks::power;
+use crate::masks::without;
+use crate::turns::pair_turn;
+use crate::turns::rows_walk;
 
 // How a search ended: kind 0 with nothing found, 1 with the path's first places as the first won beginning, 2 cut.
 pub struct Explored {
@@ -19,7 +22,13 @@ pub struct Explored {
 }
 
 // How the path's first k places are judged, where the shorter beginnings are open: 0 open, 1 lost, 2 won.
-fn last_turn<'a>(edges: &'a [u32; 32], unknowns: &'a [u32; 32], path: &'a [u8; 32], n: u32, k: u32) -> u32
+fn last_turn<'a>(
+    edges: &'a [u32; 32],
+    unknowns: &'a [u32; 32],
+    path: &'a [u8; 32],
+    n: u32,
+    k: u32,
+) -> u32
     requires { ⌜ (n ≤ 32) × (1 ≤ k) × (k ≤ n) × Within k (now path) ⌝ }
     ensures { λ r. ⌜ r ≡ lastCode (now (edges .entry)) (now (unknowns .entry)) (now (path .entry)) n k ⌝ }
 {
@@ -54,7 +63,14 @@ fn weight_of(v: u8) -> u32
 
 // Tries the beginnings in dictionary order, one a turn, up to the first won one or the budget. Afterwards the path's first
 // places are that beginning, and the places after n are as they were.
-pub fn explore<'a, 'b>(n: u32, edges: &'a [u32; 32], unknowns: &'a [u32; 32], starts: u32, budget: u32, path: &'b mut [u8; 32]) -> Explored
+pub fn explore<'a, 'b>(
+    n: u32,
+    edges: &'a [u32; 32],
+    unknowns: &'a [u32; 32],
+    starts: u32,
+    budget: u32,
+    path: &'b mut [u8; 32],
+) -> Explored
     requires { ⌜ (length (now path) ≡ 32) × (wellFormed (graphIn n (now edges) (now unknowns) starts) ≡ true) ⌝ }
     ensures { λ r. ⌜ (foundBy r (now (path .exit)) ≡ found (graphIn n (now (edges .entry)) (now (unknowns .entry)) starts) budget) × (drop n (now (path .exit)) ≡ drop n (now (path .entry))) ⌝ }
 {
