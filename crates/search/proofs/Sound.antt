@@ -1,0 +1,84 @@
+-- Sound: every fully drawn graph of the same order and blocks that breaks the clause of a certificate has a permitted copy strictly earlier.
+use Prim.Native.Nat.{ℕ}
+use mathlib.Core.Path.{_≡_, refl, sym, _∙_, subst}
+use mathlib.Core.Logic.{_↔_}
+use mathlib.Core.List.{List, _∷_, List·Memᴰ, List·Memᴰ·head, Memᴰ·append-left, Memᴰ·append-right}
+use Rattle.laws.specs.Each.{Each}
+use Rattle.walk.specs.Walk.{won}
+use Rattle.walk.specs.Clause.{BreaksClause}
+use Rattle.walk.specs.Earlier.{Earlier, copy, LexLess}
+use Rattle.walk.proofs.Broken.{clause-sound}
+use Rattle.graph.specs.declared.Graph.{Graph}
+use Rattle.graph.specs.WellFormed.{WellFormed, FullyDrawn}
+use Rattle.graph.specs.Arrangement.{Permitted, relabelled}
+use Rattle.graph.specs.Pairs.{Pair, pairs, entryAt}
+use Rattle.graph.specs.Order.{EarlierGraph, matrixWord}
+use Rattle.graph.proofs.Relabelling.{relabelled-order, relabelled-formed, relabelled-drawn}
+use Rattle.graph.proofs.OrderLaws.{same-order}
+use Rattle.search.specs.Judging.{image, walkAll, literalsOf, clauseOf}
+use Rattle.search.proofs.Images.{samePair-tells, image-listed, relabelled-image}
+
+-- ---- the words of the statement
+
+-- a fully drawn, well-formed graph of order n with these block starts
+pub record FullGraph (n starts : ℕ) (h : Graph) : Type 0 where
+  pub formed : WellFormed h
+  pub full : FullyDrawn h
+  pub order-is : h .order ≡ n
+  pub starts-are : h .starts ≡ starts
+
+-- the copy of h by p is permitted and strictly earlier than h
+pub record EarlierCopy (h : Graph) (p : List ℕ) : Type 0 where
+  pub permitted : Permitted (h .order) (h .starts) p
+  pub earlier : EarlierGraph (relabelled h p) h
+
+-- every literal of the clause is false in h
+abbrev pub BrokenBy : Graph → List ℕ → Graph → Type 0
+BrokenBy g p h = BreaksClause (pairs (g .order)) (clauseOf g p) (entryAt h)
+
+-- ---- copies
+
+-- a drawing with the same entries along ks is as early
+earlier-alike : {P : Type 0} (ks : List P) (x y z : P → ℕ) → Each (λ k. x k ≡ y k) ks → Earlier ks x z → Earlier ks y z
+earlier-alike ks x y z same e =
+    record {
+      before = e .before;
+      pair = e .pair;
+      after = e .after;
+      split = e .split;
+      agree = λ k m. sym (same k (subst (λ l. List·Memᴰ k l) (sym (e .split)) (Memᴰ·append-left (e .pair ∷ e .after) m))) ∙ e .agree k m;
+      zero-here = sym (same (e .pair) (subst (λ l. List·Memᴰ (e .pair) l) (sym (e .split)) (Memᴰ·append-right (e .before) (List·Memᴰ·head refl)))) ∙ e .zero-here;
+      one-there = e .one-there;
+    }
+
+-- the relabelled graph is earlier exactly where the entries of the images are
+pub copy-earlier : (h : Graph) → WellFormed h → (p : List ℕ) → Earlier (pairs (h .order)) (copy (image p) (entryAt h)) (entryAt h) ↔ EarlierGraph (relabelled h p) h
+copy-earlier h w p =
+    rw (relabelled-order h p w) (
+      earlier-alike (pairs (h .order)) (copy (image p) (entryAt h)) (entryAt (relabelled h p)) (entryAt h) (λ k m. sym (relabelled-image h w p k m)),
+      earlier-alike (pairs (h .order)) (entryAt (relabelled h p)) (copy (image p) (entryAt h)) (entryAt h) (relabelled-image h w p),
+    )
+
+-- for fully drawn graphs, in the published order of the matrices too
+pub copy-published : (h : Graph) → WellFormed h → FullyDrawn h → (p : List ℕ) → LexLess (matrixWord (relabelled h p)) (matrixWord h) ↔ EarlierGraph (relabelled h p) h
+copy-published h w d p =
+    same-order (relabelled h p) h (relabelled-formed h p w) w (relabelled-drawn h p w d) d (relabelled-order h p w)
+
+-- ---- sound
+
+module _ (g : Graph) (p : List ℕ) (allowed : Permitted (g .order) (g .starts) p) (k : Pair) (wins : walkAll g p ≡ won k) where
+  -- what breaks the clause of p has by p a permitted copy strictly earlier
+  pub sound : (h : Graph) → FullGraph (g .order) (g .starts) h → BrokenBy g p h → EarlierCopy h p
+  unfolding walkAll literalsOf clauseOf
+  sound h f b =
+      record {
+        permitted = rw (f .order-is, f .starts-are) allowed;
+        earlier =
+            copy-earlier h (f .formed) p .0
+            (rw (f .order-is)
+            (clause-sound samePair-tells (entryAt g) (image p) (pairs (g .order)) (image-listed (g .order) p (allowed .reordering)) k wins (entryAt h) (λ j m. f .full .known (j .row) (j .column)) b));
+      }
+
+  -- and in the published order
+  pub sound-published : (h : Graph) → FullGraph (g .order) (g .starts) h → BrokenBy g p h → LexLess (matrixWord (relabelled h p)) (matrixWord h)
+  sound-published h f b = copy-published h (f .formed) (f .full) p .1 (sound h f b .earlier)
