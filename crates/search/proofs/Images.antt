@@ -6,7 +6,7 @@ use mathlib.Core.Logic.{_≢_, _⊎_, inl, inr}
 use mathlib.Core.List.{List, List·Memᴰ}
 use lib.Dec.{ltb, eqb}
 use borrow.Author.Tests.{lt-ltb, le-ltb, eqb-true, eq-eqb}
-use Rattle.laws.specs.Compared.{by-below, by-order}
+use Rattle.laws.specs.Compared.{by-below}
 use Rattle.laws.specs.TestLaws.{both-first, both-second, both-hold, pick-true, pick-false}
 use Rattle.laws.specs.Each.{Each}
 use Rattle.walk.specs.Walk.{Tells}
