@@ -1,3 +1,4 @@
+pub mod Arrangements
 pub mod Images
 pub mod Sound
 pub mod Literals

@@ -23,7 +23,7 @@ use Rattle.graph.specs.Arrangement.{Reordering}
 use Rattle.graph.specs.Pairs.{Pair, pairs, pairCount, entryAt}
 use Rattle.graph.proofs.PairLaws.{Between, numberOf, pairs-given, pairs-has, pairs-length, split-number, before-smaller}
 use Rattle.search.specs.Judging.{samePair, image, walkAll, literalsOf, clauseOf}
-use Rattle.search.proofs.Images.{samePair-tells, image-between, image-listed}
+use Rattle.search.proofs.Arrangements.{samePair-tells, image-between, images-inside}
 use Rattle.search.proofs.Sound.{BrokenBy}
 
 -- ---- false in the graph, rising, few
@@ -32,7 +32,7 @@ use Rattle.search.proofs.Sound.{BrokenBy}
 pub clause-false : (g : Graph) (p : List ℕ) → Reordering (g .order) p → BrokenBy g p g
 unfolding literalsOf clauseOf
 clause-false g p r =
-    walk-clause-breaks samePair-tells (entryAt g) (image p) (pairs (g .order)) (image-listed (g .order) p r) (entryAt g) .0
+    walk-clause-breaks samePair-tells (entryAt g) (image p) (pairs (g .order)) (images-inside (g .order) p r) (entryAt g) .0
     (literals-false samePair-tells (entryAt g) (image p) (pairs (g .order)))
 
 -- they are written by rising pair number

@@ -16,7 +16,8 @@ use Rattle.graph.specs.Order.{EarlierGraph, matrixWord}
 use Rattle.graph.proofs.Relabelling.{relabelled-order, relabelled-formed, relabelled-drawn}
 use Rattle.graph.proofs.OrderLaws.{same-order}
 use Rattle.search.specs.Judging.{image, walkAll, literalsOf, clauseOf}
-use Rattle.search.proofs.Images.{samePair-tells, image-listed, relabelled-image}
+use Rattle.search.proofs.Arrangements.{samePair-tells, images-inside}
+use Rattle.search.proofs.Images.{relabelled-image}
 
 -- ---- the words of the statement
 
@@ -76,7 +77,7 @@ module _ (g : Graph) (p : List ℕ) (allowed : Permitted (g .order) (g .starts) 
         earlier =
             copy-earlier h (f .formed) p .0
             (rw (f .order-is)
-            (clause-sound samePair-tells (entryAt g) (image p) (pairs (g .order)) (image-listed (g .order) p (allowed .reordering)) k wins (entryAt h) (λ j m. f .full .known (j .row) (j .column)) b));
+            (clause-sound samePair-tells (entryAt g) (image p) (pairs (g .order)) (images-inside (g .order) p (allowed .reordering)) k wins (entryAt h) (λ j m. f .full .known (j .row) (j .column)) b));
       }
 
   -- and in the published order
