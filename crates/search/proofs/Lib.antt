@@ -2,3 +2,4 @@ pub mod Arrangements
 pub mod Images
 pub mod Sound
 pub mod Literals
+pub mod Smallest
