@@ -3,19 +3,17 @@ use Prim.Native.Nat.{ℕ, zero, suc, _+_, _-_, _≤_, _<_}
 use native.Mathlib.Omega.{arith}
 use mathlib.Core.Path.{_≡_, refl, sym, ap, ap₂, subst, _∙_}
 use mathlib.Core.Logic.{inl, inr, _≢_, _↔_, ⊎-elim}
-use mathlib.Core.Bool.{Bool, true, false}
+use mathlib.Core.Bool.{Bool, true}
 use mathlib.Core.List.{List, [], _∷_, _++_, List·Memᴰ}
-use lib.IntN.{ℤ}
 use lib.ListN.{length, getD, take, replicate, length-append, length-replicate, List·getD-append, List·getD-eq-default}
 use lib.Seq.{getD-append-add, getD-take, length-take-le, take-at}
 use lib.Dec.{eqb, ltb}
 use borrow.Author.Tests.{eqb-true, eq-eqb, lt-ltb, le-ltb}
 use Rattle.laws.specs.Compared.{by-below, by-order}
 use Rattle.laws.specs.Each.{Each}
-use Rattle.laws.specs.Test.{both, either, pick}
+use Rattle.laws.specs.Test.{both, either}
 use Rattle.laws.specs.TestLaws.{both-first, both-second, both-hold, same-test, pick-true, pick-false, one-holds, either-first, either-second}
-use Rattle.walk.specs.Walk.{Tells, walk}
-use Rattle.walk.specs.Clause.{literals, clause}
+use Rattle.walk.specs.Walk.{Tells}
 use Rattle.walk.proofs.Prefix.{images-alike}
 use Rattle.beginnings.specs.Beginning.{Beginning}
 use Rattle.beginnings.specs.Order.{Before}
@@ -198,6 +196,11 @@ unfolding pairOfTwo
 entry-of-two g w u v =
     by-below u v (λ (h : u < v). rw (pick-true (ltb u v) (pair u v) (pair v u) (lt-ltb u v h)))
     (λ (h : v ≤ u). rw (pick-false (ltb u v) (pair u v) (pair v u) (le-ltb u v h)) (w .symmetric v u))
+
+-- and its entry at the image of a pair is that at (p(i), p(j))
+pub entry-of-image : (g : Graph) → WellFormed g → (p : List ℕ) (k : Pair) → entryAt g (image p k) ≡ entry g (at p (k .row)) (at p (k .column))
+unfolding image
+entry-of-image g w p k = entry-of-two g w (at p (k .row)) (at p (k .column))
 
 -- the pair of u and v is (i, j) exactly where u and v are i and j, or j and i
 pub two-are : (u v i j : ℕ) → i < j → samePair (pairOfTwo u v) (pair i j) ≡ either (both (eqb u i) (eqb v j)) (both (eqb u j) (eqb v i))

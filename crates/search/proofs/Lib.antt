@@ -1,4 +1,5 @@
 pub mod Arrangements
+pub mod Judgements
 pub mod Images
 pub mod Sound
 pub mod Literals
