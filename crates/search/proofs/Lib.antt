@@ -4,3 +4,4 @@ pub mod Images
 pub mod Sound
 pub mod Literals
 pub mod Smallest
+pub mod Survival
