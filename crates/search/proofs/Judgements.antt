@@ -136,6 +136,11 @@ module _ (g : Graph) where
   unfolding judged walkAll
   judged-full p e = rw (judgedOn-full (g .order) (length p) e)
 
+  -- which is won exactly at its standing pair
+  pub walk-stands : (p : List ℕ) (k : Pair) → (walkAll g p ≡ won k) ↔ StandsIn (entryAt g) (image p) (pairs (g .order)) k
+  unfolding walkAll
+  walk-stands p k = won-in-words samePair-tells (entryAt g) (image p) (pairs (g .order)) k
+
   -- so it is won exactly where it has a standing pair
   pub full-won : (p : List ℕ) → length p ≡ g .order → (judged g p ≡ Search.won) ↔ ((k : Pair) × StandsIn (entryAt g) (image p) (pairs (g .order)) k)
   full-won p e = rw (judgedOn-full (g .order) (length p) e) at (judged-won p)

@@ -1,5 +1,7 @@
 pub mod Arrangements
 pub mod Judgements
+pub mod Certificates
+pub mod Exact
 pub mod Images
 pub mod Sound
 pub mod Literals
