@@ -8,10 +8,8 @@ use lib.IntN.{ℤ, pos, negℤ, natAbs}
 use lib.ListN.{length}
 use Rattle.laws.specs.Each.{Each, each-none, each-cons}
 use Rattle.laws.specs.ListLaws.{NoRepeats, mem-split}
-use Rattle.walk.specs.Walk.{won}
 use Rattle.walk.specs.Words.{StandsIn}
 use Rattle.walk.specs.Clause.{Literal, absent, present, pairIn, signed, Met, Numbered, Written, RisingAbove}
-use Rattle.walk.proofs.Words.{won-in-words}
 use Rattle.walk.proofs.Number.{has-number}
 use Rattle.walk.proofs.Literals.{literals-false, literals-consistent}
 use Rattle.walk.proofs.Reached.{literals-in-words}
@@ -22,8 +20,9 @@ use Rattle.graph.specs.declared.Graph.{Graph}
 use Rattle.graph.specs.Arrangement.{Reordering}
 use Rattle.graph.specs.Pairs.{Pair, pairs, pairCount, entryAt}
 use Rattle.graph.proofs.PairLaws.{Between, numberOf, pairs-given, pairs-has, pairs-length, split-number, before-smaller}
-use Rattle.search.specs.Judging.{samePair, image, walkAll, literalsOf, clauseOf}
+use Rattle.search.specs.Judging.{samePair, image, literalsOf, clauseOf}
 use Rattle.search.proofs.Arrangements.{samePair-tells, image-between, images-inside}
+use Rattle.search.proofs.Certificates.{Certified}
 use Rattle.search.proofs.Sound.{BrokenBy}
 
 -- ---- false in the graph, rising, few
@@ -113,11 +112,7 @@ pub data InClause (g : Graph) (p : List ℕ) (k : Pair) (z : ℤ) : Type 0 where
   not-standing : z ≡ negℤ (pos (numberOf (g .order) k)) → InClause g p k z
   standing-image : z ≡ pos (numberOf (g .order) (image p k)) → InClause g p k z
 
-module _ (g : Graph) (p : List ℕ) (r : Reordering (g .order) p) (k : Pair) (wins : walkAll g p ≡ won k) where
-  stands : StandsIn (entryAt g) (image p) (pairs (g .order)) k
-  unfolding walkAll
-  stands = won-in-words samePair-tells (entryAt g) (image p) (pairs (g .order)) k .0 wins
-
+module _ (g : Graph) (p : List ℕ) (r : Reordering (g .order) p) (k : Pair) (stands : StandsIn (entryAt g) (image p) (pairs (g .order)) k) where
   up-to : List Pair
   up-to = stands .before ++ k ∷ []
 
@@ -184,12 +179,16 @@ module _ (g : Graph) (p : List ℕ) (r : Reordering (g .order) p) (k : Pair) (wi
   said-stands z (standing-image e) =
       rw e (met-stands (present (image p k)) record { source = k; listed = standing-up-to; moved = standing-moved; image = refl; gap = stands .standing .wins .1 } (image-between (g .order) p r k standing-between))
 
-  -- the clause of a certificate whose standing pair is k holds exactly the literals of the rules
-  pub clause-in-words : (z : ℤ) → List·Memᴰ z (clauseOf g p) ↔ InClause g p k z
-  unfolding up-to literalsOf clauseOf
-  clause-in-words z = (λ h. to (clause-written samePair-tells (literalsOf g p) (pairs (g .order)) z h), said-stands z)
-    where
-      to : Written (literalsOf g p) (pairs (g .order)) z → InClause g p k z
-      to w =
-          met-said (w .literal) z (literals-in-words samePair-tells (entryAt g) (image p) (pairs (g .order)) k stands (w .literal) .0 (w .listed))
-          (w .written ∙ ap (signed (w .literal)) (number-in-pairs (g .order) (pairIn (w .literal)) (w .number) (w .place)))
+  written-said : (z : ℤ) → Written (literalsOf g p) (pairs (g .order)) z → InClause g p k z
+  unfolding up-to literalsOf
+  written-said z w =
+      met-said (w .literal) z (literals-in-words samePair-tells (entryAt g) (image p) (pairs (g .order)) k stands (w .literal) .0 (w .listed))
+      (w .written ∙ ap (signed (w .literal)) (number-in-pairs (g .order) (pairIn (w .literal)) (w .number) (w .place)))
+
+-- the clause of a certificate holds exactly the literals of the rules
+pub clause-in-words : (g : Graph) (p : List ℕ) (c : Certified g p) (z : ℤ) → List·Memᴰ z (clauseOf g p) ↔ InClause g p (c .pair) z
+unfolding clauseOf
+clause-in-words g p c z = (
+  λ h. written-said g p (c .permitted .reordering) (c .pair) (c .standing) z (clause-written samePair-tells (literalsOf g p) (pairs (g .order)) z h),
+  said-stands g p (c .permitted .reordering) (c .pair) (c .standing) z,
+)

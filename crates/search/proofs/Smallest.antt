@@ -14,27 +14,47 @@ use Rattle.graph.specs.declared.Graph.{Graph}
 use Rattle.graph.specs.Graph.{entry}
 use Rattle.graph.specs.WellFormed.{WellFormed, FullyDrawn}
 use Rattle.graph.specs.Arrangement.{at, Reordering, Permitted, relabelled, composed}
-use Rattle.graph.specs.Pairs.{Pair, pairs, entryAt}
+use Rattle.graph.specs.Pairs.{Pair, pairs, pairCount, entryAt}
 use Rattle.graph.specs.Order.{EarlierGraph}
 use Rattle.graph.proofs.Placed.{placed-at}
 use Rattle.graph.proofs.Drawn.{same-graph}
 use Rattle.graph.proofs.Composing.{identity, identity-permitted, composed-at, composed-permitted}
 use Rattle.graph.proofs.Relabelling.{relabelled-order, relabelled-starts, relabelled-entry, relabelled-formed, relabelled-drawn}
-use Rattle.search.specs.Judging.{image, walkAll}
-use Rattle.search.proofs.Arrangements.{samePair-tells, images-inside}
-use Rattle.search.proofs.Sound.{copy-earlier}
+use Rattle.search.specs.declared.Judged.{Judged}
+use Rattle.search.specs.Judging.{image, walkAll, stepsFor}
+use Rattle.search.specs.Answer.{told, judgeAnswer}
+use Rattle.search.proofs.Arrangements.{samePair-tells}
+use Rattle.search.proofs.Judgements.{walk-stands}
+use Rattle.search.proofs.Certificates.{Certified, first-certified}
+use Rattle.search.proofs.Exact.{InWords, malformed, cramped, cut-off, none-smaller, found-smaller, judged-in-words, exact-none}
+use Rattle.search.proofs.Sound.{EarlierCopy, copy-earlier}
 
--- no permitted copy of g is earlier than g
+-- no permitted copy of g is strictly earlier
 abbrev pub Smallest : Graph → Type 0
-Smallest g = (q : List ℕ) → Permitted (g .order) (g .starts) q → ¬ EarlierGraph (relabelled g q) g
+Smallest g = (p : List ℕ) → ¬ EarlierCopy g p
 
--- on a fully drawn graph, p has a standing pair exactly when the copy by p is strictly earlier
-pub standing-earlier : (g : Graph) → WellFormed g → FullyDrawn g → (p : List ℕ) → ((k : Pair) × (walkAll g p ≡ won k)) ↔ EarlierGraph (relabelled g p) g
-unfolding walkAll
-standing-earlier g w d p =
-    Iff·trans
-    (won-full samePair-tells (entryAt g) (image p) (pairs (g .order)) (λ k m. d .known (k .row) (k .column)) (λ k m. d .known (image p k .row) (image p k .column)))
-    (copy-earlier g w p)
+module _ (g : Graph) (w : WellFormed g) (d : FullyDrawn g) where
+  standing-earlier : (p : List ℕ) → ((k : Pair) × (walkAll g p ≡ won k)) ↔ EarlierGraph (relabelled g p) g
+  unfolding walkAll
+  standing-earlier p =
+      Iff·trans
+      (won-full samePair-tells (entryAt g) (image p) (pairs (g .order)) (λ k m. d .known (k .row) (k .column)) (λ k m. d .known (image p k .row) (image p k .column)))
+      (copy-earlier g w p)
+
+  -- a permitted arrangement has a standing pair exactly when the copy by it is strictly earlier
+  pub certified-earlier : (p : List ℕ) → Certified g p ↔ EarlierCopy g p
+  certified-earlier p = (
+    λ c. record { permitted = c .permitted; earlier = standing-earlier p .0 (c .pair, walk-stands g p (c .pair) .1 (c .standing)) },
+    λ e. let k = standing-earlier p .1 (e .earlier) in record { permitted = e .permitted; pair = k .0; standing = walk-stands g p (k .0) .0 (k .1) },
+  )
+
+  -- so with room and budget enough, "none" says that no permitted renumbering comes earlier, and nothing else does
+  pub none-smallest : (budget room : ℕ) → pairCount (g .order) ≤ room → stepsFor g ≤ budget → (told (judgeAnswer g budget room .verdict) .code ≡ 0) ↔ Smallest g
+  none-smallest budget room enough reach =
+      let none = exact-none g budget room w enough reach in (
+        λ e p copy. none .0 e p (certified-earlier p .1 copy),
+        λ least. none .1 (λ p c. least p (certified-earlier p .0 c)),
+      )
 
 -- ---- copies of copies
 
@@ -105,45 +125,53 @@ pub record SmallestBy (h : Graph) (q : List ℕ) : Type 0 where
   pub permitted : Permitted (h .order) (h .starts) q
   pub smallest : Smallest (relabelled h q)
 
--- some permitted arrangement of g has a standing pair, or none has
-Decided : Graph → Type 0
-Decided g =
-    ((p : List ℕ) × Permitted (g .order) (g .starts) p × ((k : Pair) × (walkAll g p ≡ won k)))
-    ⊎ ((p : List ℕ) → Permitted (g .order) (g .starts) p → ¬ ((k : Pair) × (walkAll g p ≡ won k)))
+-- judging decides whether there is a certificate
+certified-or-none : (g : Graph) → WellFormed g → ((p : List ℕ) × Certified g p) ⊎ ((p : List ℕ) → ¬ Certified g p)
+certified-or-none g w = at (judged-in-words g (stepsFor g) (pairCount (g .order)))
+  where
+    at : {a : Judged} → InWords g (stepsFor g) (pairCount (g .order)) a → ((p : List ℕ) × Certified g p) ⊎ ((p : List ℕ) → ¬ Certified g p)
+    at (malformed no-graph) = absurd (no-graph w)
+    at (cramped v l) = absurd (omega arith)
+    at (cut-off v h l) = absurd (omega arith)
+    at (none-smaller v h l nowhere) = inr nowhere
+    at (found-smaller v h l {p} f) = inl (p, first-certified f)
 
-module _ (decide : (g : Graph) → WellFormed g → Decided g) where
-  -- judging again and again ends, as each copy is a smaller number than the one before it
-  descend : (m : ℕ) (h : Graph) → WellFormed h → FullyDrawn h → weight (entryAt h) (pairs (h .order)) < m → (q : List ℕ) × SmallestBy h q
-  unfolding Decided
-  descend zero h w d l = absurd (omega arith)
-  descend (suc m) h w d l = at (decide h w) (descend m)
-    where
-      ends : ((p : List ℕ) → Permitted (h .order) (h .starts) p → ¬ ((k : Pair) × (walkAll h p ≡ won k))) → SmallestBy h (identity (h .order))
-      ends none =
-          record {
-            permitted = identity-permitted (h .order) (h .starts) (w .order-high);
-            smallest = rw (relabelled-identity h w) (λ q a e. none q a (standing-earlier h w d q .1 e));
-          }
+-- judging copy after copy ends, as each is a smaller number than the one before it
+descend : (m : ℕ) (h : Graph) → WellFormed h → FullyDrawn h → weight (entryAt h) (pairs (h .order)) < m → (q : List ℕ) × SmallestBy h q
+descend zero h w d l = absurd (omega arith)
+descend (suc m) h w d l = at (certified-or-none h w) (descend m)
+  where
+    ends : ((p : List ℕ) → ¬ Certified h p) → SmallestBy h (identity (h .order))
+    ends nowhere =
+        record {
+          permitted = identity-permitted (h .order) (h .starts) (w .order-high);
+          smallest = rw (relabelled-identity h w) (λ p e. nowhere p (certified-earlier h w d p .1 e));
+        }
 
-      further : (p : List ℕ) → Permitted (h .order) (h .starts) p → (q : List ℕ) → SmallestBy (relabelled h p) q → SmallestBy h (composed (h .order) p q)
-      further p a q s =
-          let b : Permitted (h .order) (h .starts) q = rw (relabelled-order h p w, relabelled-starts h p w) at (s .permitted) in
-          record {
-            permitted = composed-permitted (h .order) (h .starts) p q (w .order-high) a b;
-            smallest = rw (← relabelled-twice h w p q (b .reordering)) (s .smallest);
-          }
+    further : (p : List ℕ) → Permitted (h .order) (h .starts) p → (q : List ℕ) → SmallestBy (relabelled h p) q → SmallestBy h (composed (h .order) p q)
+    further p a q s =
+        let b : Permitted (h .order) (h .starts) q = rw (relabelled-order h p w, relabelled-starts h p w) at (s .permitted) in
+        record {
+          permitted = composed-permitted (h .order) (h .starts) p q (w .order-high) a b;
+          smallest = rw (← relabelled-twice h w p q (b .reordering)) (s .smallest);
+        }
 
-      lighter : (p : List ℕ) → EarlierGraph (relabelled h p) h → weight (entryAt (relabelled h p)) (pairs (relabelled h p .order)) < m
-      lighter p e =
-          omega (
-            arith,
-            earlier-lighter (entryAt (relabelled h p)) (entryAt h) (pairs (relabelled h p .order)) (λ k n. relabelled-drawn h p w d .known (k .row) (k .column)) e,
-            ap (λ (n : ℕ). weight (entryAt h) (pairs n)) (relabelled-order h p w)
-          )
+    lighter : (p : List ℕ) → EarlierGraph (relabelled h p) h → weight (entryAt (relabelled h p)) (pairs (relabelled h p .order)) < m
+    lighter p e =
+        omega (
+          arith,
+          earlier-lighter (entryAt (relabelled h p)) (entryAt h) (pairs (relabelled h p .order)) (λ k n. relabelled-drawn h p w d .known (k .row) (k .column)) e,
+          ap (λ (n : ℕ). weight (entryAt h) (pairs n)) (relabelled-order h p w)
+        )
 
-      at : Decided h → ((g : Graph) → WellFormed g → FullyDrawn g → weight (entryAt g) (pairs (g .order)) < m → (q : List ℕ) × SmallestBy g q) → (q : List ℕ) × SmallestBy h q
-      at (inl c) below =
-          let p = c .0 in
-          let r = below (relabelled h p) (relabelled-formed h p w) (relabelled-drawn h p w d) (lighter p (standing-earlier h w d p .0 (c .2))) in
-          (composed (h .order) p (r .0), further p (c .1) (r .0) (r .1))
-      at (inr none) below = (identity (h .order), ends none)
+    at : ((p : List ℕ) × Certified h p) ⊎ ((p : List ℕ) → ¬ Certified h p)
+        → ((g : Graph) → WellFormed g → FullyDrawn g → weight (entryAt g) (pairs (g .order)) < m → (q : List ℕ) × SmallestBy g q) → (q : List ℕ) × SmallestBy h q
+    at (inl c) below =
+        let p = c .0 in
+        let r = below (relabelled h p) (relabelled-formed h p w) (relabelled-drawn h p w d) (lighter p (certified-earlier h w d p .0 (c .1) .earlier)) in
+        (composed (h .order) p (r .0), further p (c .1 .permitted) (r .0) (r .1))
+    at (inr nowhere) below = (identity (h .order), ends nowhere)
+
+-- some permitted copy of every fully drawn graph is smallest
+pub smallest-copy : (h : Graph) → WellFormed h → FullyDrawn h → (q : List ℕ) × SmallestBy h q
+smallest-copy h w d = descend (suc (weight (entryAt h) (pairs (h .order)))) h w d (omega arith)

@@ -4,19 +4,20 @@ use mathlib.Core.Path.{_≡_, refl, sym, _∙_, subst}
 use mathlib.Core.Logic.{_↔_}
 use mathlib.Core.List.{List, _∷_, List·Memᴰ, List·Memᴰ·head, Memᴰ·append-left, Memᴰ·append-right}
 use Rattle.laws.specs.Each.{Each}
-use Rattle.walk.specs.Walk.{won}
 use Rattle.walk.specs.Clause.{BreaksClause}
 use Rattle.walk.specs.Earlier.{Earlier, copy, LexLess}
 use Rattle.walk.proofs.Broken.{clause-sound}
 use Rattle.graph.specs.declared.Graph.{Graph}
 use Rattle.graph.specs.WellFormed.{WellFormed, FullyDrawn}
 use Rattle.graph.specs.Arrangement.{Permitted, relabelled}
-use Rattle.graph.specs.Pairs.{Pair, pairs, entryAt}
+use Rattle.graph.specs.Pairs.{pairs, entryAt}
 use Rattle.graph.specs.Order.{EarlierGraph, matrixWord}
 use Rattle.graph.proofs.Relabelling.{relabelled-order, relabelled-formed, relabelled-drawn}
 use Rattle.graph.proofs.OrderLaws.{same-order}
 use Rattle.search.specs.Judging.{image, walkAll, literalsOf, clauseOf}
 use Rattle.search.proofs.Arrangements.{samePair-tells, images-inside}
+use Rattle.search.proofs.Judgements.{walk-stands}
+use Rattle.search.proofs.Certificates.{Certified}
 use Rattle.search.proofs.Images.{relabelled-image}
 
 -- ---- the words of the statement
@@ -67,17 +68,18 @@ copy-published h w d p =
 
 -- ---- sound
 
-module _ (g : Graph) (p : List ℕ) (allowed : Permitted (g .order) (g .starts) p) (k : Pair) (wins : walkAll g p ≡ won k) where
-  -- what breaks the clause of p has by p a permitted copy strictly earlier
+module _ (g : Graph) (p : List ℕ) (c : Certified g p) where
+  -- what breaks the clause of the certificate p has by p a permitted copy strictly earlier
   pub sound : (h : Graph) → FullGraph (g .order) (g .starts) h → BrokenBy g p h → EarlierCopy h p
   unfolding walkAll literalsOf clauseOf
   sound h f b =
       record {
-        permitted = rw (f .order-is, f .starts-are) allowed;
+        permitted = rw (f .order-is, f .starts-are) (c .permitted);
         earlier =
             copy-earlier h (f .formed) p .0
             (rw (f .order-is)
-            (clause-sound samePair-tells (entryAt g) (image p) (pairs (g .order)) (images-inside (g .order) p (allowed .reordering)) k wins (entryAt h) (λ j m. f .full .known (j .row) (j .column)) b));
+            (clause-sound samePair-tells (entryAt g) (image p) (pairs (g .order)) (images-inside (g .order) p (c .permitted .reordering)) (c .pair)
+            (walk-stands g p (c .pair) .1 (c .standing)) (entryAt h) (λ j m. f .full .known (j .row) (j .column)) b));
       }
 
   -- and in the published order
