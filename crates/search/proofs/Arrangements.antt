@@ -40,6 +40,7 @@ samePair-tells =
 
 -- ---- zeros after the last place
 
+-- zeros hold zero at every place, and past their end
 zeros : (m i : ℕ) → getD {A = ℕ} (replicate m 0) i 0 ≡ 0
 zeros zero i = refl
 zeros (suc m) zero = refl
@@ -71,7 +72,9 @@ pub padded-image : (b : List ℕ) (k : Pair) → image (padded b) k ≡ image b 
 unfolding image
 padded-image b k = ap₂ pairOfTwo (padded-at b (k .row)) (padded-at b (k .column))
 
--- two lists of one length that end alike come in the order of their starts
+-- ---- dictionary order of lists that end alike
+
+-- the starts of two of one length come in the order of the two
 before-start : (a b z : List ℕ) → length a ≡ length b → Before (a ++ z) (b ++ z) → Before a b
 before-start [] [] z e h = absurd (before-irrefl z h)
 before-start [] (w ∷ b) z e h = absurd (omega arith)
@@ -79,6 +82,7 @@ before-start (v ∷ a) [] z e h = absurd (omega arith)
 before-start (v ∷ a) (w ∷ b) z e (inl h) = inl h
 before-start (v ∷ a) (w ∷ b) z e (inr h) = inr (h .0, before-start a b z (omega arith) (h .1))
 
+-- and the two in the order of their starts
 before-longer : (a b z : List ℕ) → length a ≡ length b → Before a b → Before (a ++ z) (b ++ z)
 before-longer [] [] z e h = absurd h
 before-longer [] (w ∷ b) z e h = absurd (omega arith)
@@ -175,15 +179,17 @@ module _ (n : ℕ) (p : List ℕ) (h : Reordering n p) where
 
 -- ---- so both have one walk, one clause
 
--- the walk, the literals and the clause of a beginning don't change when it is padded
+-- the walk of a beginning doesn't change when it is padded
 pub padded-walk : (g : Graph) (b : List ℕ) → walkAll g (padded b) ≡ walkAll g b
 unfolding walkAll
 padded-walk g b = images-alike samePair (entryAt g) (image (padded b)) (image b) (pairs (g .order)) (λ k m. padded-image b k) .0
 
+-- nor its literals
 pub padded-literals : (g : Graph) (b : List ℕ) → literalsOf g (padded b) ≡ literalsOf g b
 unfolding literalsOf
 padded-literals g b = images-alike samePair (entryAt g) (image (padded b)) (image b) (pairs (g .order)) (λ k m. padded-image b k) .1
 
+-- nor its clause
 pub padded-clause : (g : Graph) (b : List ℕ) → clauseOf g (padded b) ≡ clauseOf g b
 unfolding clauseOf
 padded-clause g b = rw (padded-literals g b)

@@ -4,23 +4,25 @@ use mathlib.Core.Path.{_≡_, sym, ap, subst, _∙_}
 use mathlib.Core.Logic.{_⊎_, inl, inr}
 use mathlib.Core.List.{List}
 use lib.ListN.{length, take}
-use Rattle.walk.specs.Walk.{won}
+use Rattle.walk.specs.Walk.{won, walk}
 use Rattle.walk.specs.Words.{StandsIn}
 use Rattle.walk.proofs.Standing.{standing-once}
+use Rattle.beginnings.specs.Beginning.{Beginning}
 use Rattle.beginnings.specs.Order.{Before}
 use Rattle.beginnings.specs.Search.{none, first}
 use Rattle.beginnings.specs.Certificate.{Certificate, completed}
 use Rattle.beginnings.proofs.Order.{before-irrefl, before-trans}
+use Rattle.beginnings.proofs.Completed.{completed-whole}
 use Rattle.beginnings.proofs.FirstCertificate.{none-certified, first-certificate, first-of-certificates, certificate-found, none-found}
 use Rattle.graph.specs.declared.Graph.{Graph}
 use Rattle.graph.specs.Graph.{blockOf}
 use Rattle.graph.specs.WellFormed.{WellFormed}
 use Rattle.graph.specs.Arrangement.{Permitted}
 use Rattle.graph.specs.Pairs.{Pair, pairs, entryAt}
-use Rattle.search.specs.Judging.{image, walkAll, judged, found, stepsFor, padded, certificateOf}
+use Rattle.search.specs.Judging.{samePair, image, walkAll, judgedOn, judged, found, stepsFor, padded, certificateOf}
 use Rattle.search.specs.Answer.{standingPair}
 use Rattle.search.proofs.Arrangements.{take-padded, permitted-length, permitted-beginning, permitted-padded, padded-permitted, before-padded, padded-walk}
-use Rattle.search.proofs.Judgements.{walk-stands, full-won, won-stays, lost-stays}
+use Rattle.search.proofs.Judgements.{walk-stands, full-won, won-extends, won-stays, lost-stays}
 
 -- a permitted arrangement with a standing pair
 pub record Certified (g : Graph) (p : List ℕ) : Type 0 where
@@ -126,3 +128,12 @@ module _ (g : Graph) (formed : WellFormed g) where
       padded-first (completed (g .order) (blockOf (g .starts)) (g .order - length b) b)
       (first-certificate (g .order) (blockOf (g .starts)) (judged g) (won-stays g) (lost-stays g) budget b s e)
       (first-of-certificates (g .order) (blockOf (g .starts)) (judged g) (won-stays g) (lost-stays g) budget b s e)
+
+  -- the certificate made from a won beginning stands at the pair at which that was won
+  pub certificate-walk : (b : List ℕ) (k : Pair) → Beginning (g .order) (blockOf (g .starts)) b
+      → walk samePair (entryAt g) (image b) (judgedOn (g .order) (length b)) ≡ won k → walkAll g (certificateOf g b) ≡ won k
+  unfolding certificateOf
+  certificate-walk b k s w =
+      let c = completed-whole (g .order) (blockOf (g .starts)) b s in
+      padded-walk g (completed (g .order) (blockOf (g .starts)) (g .order - length b) b) ∙ ap (walkAll g) (c .extends)
+      ∙ won-extends g b (c .part) k s (sym (ap length (c .extends)) ∙ c .whole) w

@@ -16,7 +16,6 @@ use Rattle.graph.specs.Graph.{blockOf}
 use Rattle.graph.specs.WellFormed.{WellFormed, wellFormed}
 use Rattle.graph.specs.Pairs.{Pair, pairCount}
 use Rattle.graph.proofs.Formed.{formed, tested, not-formed}
-use Rattle.search.specs.declared.Verdict.{Verdict}
 use Rattle.search.specs.declared.Verdict.the-variants.{Smaller, Nothing, Cut, Refused}
 use Rattle.search.specs.declared.Judged.{Judged}
 use Rattle.search.specs.Judging.{walkAll, clauseOf, judged, found, stepsFor, certificateOf}
@@ -48,12 +47,14 @@ module _ (g : Graph) (budget room : ℕ) where
   unfolding judgeAnswer
   refused-cramped w h = unless-true (wellFormed g) _ _ (tested g w) ∙ unless-false (leb (pairCount (g .order)) room) _ _ (lt-leb (pairCount (g .order)) room h)
 
+  -- past both checks: what the search finds
   passed : WellFormed g → pairCount (g .order) ≤ room → judgeAnswer g budget room ≡ answerFor g budget (found g budget)
   unfolding judgeAnswer
   passed w h = unless-true (wellFormed g) _ _ (tested g w) ∙ unless-true (leb (pairCount (g .order)) room) _ _ (le-leb (pairCount (g .order)) room h)
 
   -- ---- the answer
 
+  -- which the rules' words tell
   by-found : WellFormed g → pairCount (g .order) ≤ room → InWords g budget room (answerFor g budget (found g budget))
   unfolding found answerFor smaller
   by-found w h = go (found g budget) refl
@@ -95,6 +96,18 @@ module _ (g : Graph) (budget room : ℕ) where
     -- with a budget below the steps needed: cut, and the budget
     pub exact-cut : budget < stepsFor g → judgeAnswer g budget room ≡ without (Cut budget)
     exact-cut l = sym (words-alone (cut-off w enough l))
+
+    -- and cut only so
+    pub exact-cut-only : told (judgeAnswer g budget room .verdict) .code ≡ 2 → budget < stepsFor g
+    unfolding told without
+    exact-cut-only = at judged-in-words
+      where
+        at : {a : Judged} → InWords g budget room a → told (a .verdict) .code ≡ 2 → budget < stepsFor g
+        at (malformed no-graph) e = absurd (no-graph w)
+        at (cramped v h) e = absurd (omega arith)
+        at (cut-off v h l) e = l
+        at (none-smaller v h l nowhere) e = absurd (omega arith)
+        at (found-smaller v h l f) e = absurd (omega arith)
 
     module _ (reach : stepsFor g ≤ budget) where
       -- "smaller" exactly where some permitted arrangement has a standing pair

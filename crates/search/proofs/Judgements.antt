@@ -55,18 +55,21 @@ row-next m l =
 
 -- ---- judgements and outcomes
 
+-- won comes only of a walk that is won
 pub of-won : (o : Outcome Pair) → judgementOf o ≡ Search.won → (k : Pair) × (o ≡ won k)
 unfolding judgementOf
 of-won (won k) e = (k, refl)
 of-won lost e = let z : _≡_ {A = ℕ} 0 1 = cc in absurd (omega arith)
 of-won still-open e = let z : _≡_ {A = ℕ} 0 1 = cc in absurd (omega arith)
 
+-- lost only of one that is lost
 pub of-lost : (o : Outcome Pair) → judgementOf o ≡ Search.lost → o ≡ lost
 unfolding judgementOf
 of-lost (won k) e = let z : _≡_ {A = ℕ} 0 1 = cc in absurd (omega arith)
 of-lost lost e = refl
 of-lost still-open e = let z : _≡_ {A = ℕ} 0 1 = cc in absurd (omega arith)
 
+-- open only of one that is open
 pub of-open : (o : Outcome Pair) → judgementOf o ≡ Search.«open» → o ≡ still-open
 unfolding judgementOf
 of-open (won k) e = let z : _≡_ {A = ℕ} 0 1 = cc in absurd (omega arith)
@@ -75,7 +78,7 @@ of-open still-open e = refl
 
 module _ (g : Graph) where
   -- the walk on which b is judged
-  abbrev judging : List ℕ → Outcome Pair
+  abbrev pub judging : List ℕ → Outcome Pair
   judging b = walk samePair (entryAt g) (image b) (judgedOn (g .order) (length b))
 
   -- ---- in words
@@ -152,6 +155,7 @@ module _ (g : Graph) where
   unfolding image
   image-start b c k a = ap₂ pairOfTwo (List·getD-append b c 0 (k .row - 1) (omega arith)) (List·getD-append b c 0 (k .column - 1) (omega arith))
 
+  -- so they have the same walk
   start-walk : (b c : List ℕ) → walk samePair (entryAt g) (image (b ++ c)) (alongRow 1 2 (length b - 1)) ≡ walk samePair (entryAt g) (image b) (alongRow 1 2 (length b - 1))
   start-walk b c = images-alike samePair (entryAt g) (image (b ++ c)) (image b) (alongRow 1 2 (length b - 1)) (λ k m. image-start b c k (along-given 1 2 (length b - 1) k m)) .0
 
@@ -165,15 +169,24 @@ module _ (g : Graph) where
       ∙ walk-prefix samePair (entryAt g) (image (b ++ c)) (alongRow 1 2 (length b - 1)) (alongRow 1 (suc (length b)) (g .order - length b) ++ fromRow 2 (g .order - 2))
       ∙ ap (λ (o : Outcome Pair). and-then o (walk samePair (entryAt g) (image (b ++ c)) (alongRow 1 (suc (length b)) (g .order - length b) ++ fromRow 2 (g .order - 2)))) (start-walk b c))
 
-  -- so won stays won and lost stays lost
+  -- so where it is won or lost, the arrangement is
   settled : (b c : List ℕ) (o : Outcome Pair) → 1 ≤ length b → length b < g .order → length (b ++ c) ≡ g .order → judging b ≡ o → ((later : Outcome Pair) → and-then o later ≡ o) → judged g (b ++ c) ≡ judgementOf o
   settled b c o l h e q stop = judged-full (b ++ c) e ∙ ap judgementOf (walk-extends b c l h ∙ rw q (stop (walk samePair (entryAt g) (image (b ++ c)) (alongRow 1 (suc (length b)) (g .order - length b) ++ fromRow 2 (g .order - 2)))))
 
-  -- a beginning of length n is extended by nothing
+  -- b is shorter than n, or is extended by nothing
   by-length : {A : Type 0} (b c : List ℕ) → Beginning (g .order) (blockOf (g .starts)) b → length (b ++ c) ≡ g .order → (length b < g .order → A) → (b ++ c ≡ b → A) → A
   by-length b [] s e f t = t (append-nil b)
   by-length b (v ∷ c) s e f t = f (omega (arith, length-append b (v ∷ c)))
 
+  -- the standing pair of a won beginning is that of each arrangement that extends it
+  pub won-extends : (b c : List ℕ) (k : Pair) → Beginning (g .order) (blockOf (g .starts)) b → length (b ++ c) ≡ g .order
+      → walk samePair (entryAt g) (image b) (judgedOn (g .order) (length b)) ≡ won k → walkAll g (b ++ c) ≡ won k
+  unfolding walkAll and-then
+  won-extends b c k s e w =
+      by-length b c s e (λ (h : length b < g .order). walk-extends b c (s .begun) h ∙ rw w)
+      (λ (q : b ++ c ≡ b). ap (walkAll g) q ∙ (rw (judgedOn-full (g .order) (length b) (sym (ap length q) ∙ e)) at w))
+
+  -- won stays won
   pub won-stays : Stays (g .order) (blockOf (g .starts)) (judged g) Search.won
   unfolding judged judgementOf and-then
   won-stays b c s t e w =
@@ -181,6 +194,7 @@ module _ (g : Graph) where
       (λ (h : length b < g .order). let o = of-won (judging b) w in settled b c (won (o .0)) (s .begun) h e (o .1) (λ later. refl))
       (λ (q : b ++ c ≡ b). ap (judged g) q ∙ w)
 
+  -- lost stays lost
   pub lost-stays : Stays (g .order) (blockOf (g .starts)) (judged g) Search.lost
   unfolding judged judgementOf and-then
   lost-stays b c s t e w =
@@ -200,12 +214,14 @@ module _ (g : Graph) where
   rowTurn b v = step (entry g 1 (suc (length b))) (entry g (at b 1) v) (samePair (pairOfTwo (at b 1) v) (pair 1 (suc (length b))))
 
   module _ (formed : WellFormed g) (b : List ℕ) (v : ℕ) (begun : 1 ≤ length b) where
+    -- the image of (1, k) is the pair of the first vertex and v
     image-next : image (b ++ (v ∷ [])) (pair 1 (suc (length b))) ≡ pairOfTwo (at b 1) v
     unfolding image
     image-next =
         let place : suc (length b) - 1 ≡ length b = omega arith in
         ap₂ pairOfTwo (List·getD-append b (v ∷ []) 0 0 begun) (rw place (getD-at b v [] 0 (length b) refl))
 
+    -- so this is its turn
     turn-next : turn samePair (entryAt g) (image (b ++ (v ∷ []))) (pair 1 (suc (length b))) ≡ rowTurn b v
     turn-next = rw (image-next, entry-of-two g formed (at b 1) v)
 
@@ -226,23 +242,30 @@ module _ (g : Graph) where
 
     module _ (so-far : judged g b ≡ Search.«open») where
       -- where b is open and places are left after v, the pair (1, k) decides alone
-      pub short-turn : suc (length b) < g .order → judged g (b ++ (v ∷ [])) ≡ judgementOf (ending (rowTurn b v) (pair 1 (suc (length b))) still-open)
+      pub short-walk : suc (length b) < g .order → judging (b ++ (v ∷ [])) ≡ ending (rowTurn b v) (pair 1 (suc (length b))) still-open
       unfolding judged walk
-      short-turn h =
+      short-walk h =
           let long : length (b ++ (v ∷ [])) ≡ suc (length b) = length-more b v in
           let last : suc (length b) - 1 ≡ length b = omega arith in
-          ap judgementOf
-          (ap (walk samePair (entryAt g) (image (b ++ (v ∷ []))))
+          ap (walk samePair (entryAt g) (image (b ++ (v ∷ []))))
           (ap (judgedOn (g .order)) long ∙ judgedOn-short (g .order) (suc (length b)) h ∙ ap (alongRow 1 2) last ∙ sym (append-nil (alongRow 1 2 (length b))))
-          ∙ walk-next (of-open (judging b) so-far) (omega arith) [])
+          ∙ walk-next (of-open (judging b) so-far) (omega arith) []
 
-      -- where v takes the last place, the pair (1, n) does, and then the rows after it
+      -- so it is judged by that turn
+      pub short-turn : suc (length b) < g .order → judged g (b ++ (v ∷ [])) ≡ judgementOf (ending (rowTurn b v) (pair 1 (suc (length b))) still-open)
+      unfolding judged
+      short-turn h = ap judgementOf (short-walk h)
+
+      -- where v takes the last place, the pair (1, n) decides, and then the rows after it
+      pub full-walk : suc (length b) ≡ g .order
+          → walkAll g (b ++ (v ∷ [])) ≡ ending (rowTurn b v) (pair 1 (suc (length b))) (walk samePair (entryAt g) (image (b ++ (v ∷ []))) (fromRow 2 (g .order - 2)))
+      unfolding judged walkAll
+      full-walk h =
+          let last : g .order - 1 ≡ length b = omega arith in
+          ap (walk samePair (entryAt g) (image (b ++ (v ∷ [])))) (pairs-row-one (g .order) ∙ ap (λ (m : ℕ). alongRow 1 2 m ++ fromRow 2 (g .order - 2)) last)
+          ∙ walk-next (of-open (judging b) so-far) (omega arith) (fromRow 2 (g .order - 2))
+
+      -- so it is judged by that turn and them
       pub full-turn : suc (length b) ≡ g .order
           → judged g (b ++ (v ∷ [])) ≡ judgementOf (ending (rowTurn b v) (pair 1 (suc (length b))) (walk samePair (entryAt g) (image (b ++ (v ∷ []))) (fromRow 2 (g .order - 2))))
-      unfolding judged walkAll
-      full-turn h =
-          let last : g .order - 1 ≡ length b = omega arith in
-          judged-full (b ++ (v ∷ [])) (length-more b v ∙ h)
-          ∙ ap judgementOf
-          (ap (walk samePair (entryAt g) (image (b ++ (v ∷ [])))) (pairs-row-one (g .order) ∙ ap (λ (m : ℕ). alongRow 1 2 m ++ fromRow 2 (g .order - 2)) last)
-          ∙ walk-next (of-open (judging b) so-far) (omega arith) (fromRow 2 (g .order - 2)))
+      full-turn h = judged-full (b ++ (v ∷ [])) (length-more b v ∙ h) ∙ ap judgementOf (full-walk h)
