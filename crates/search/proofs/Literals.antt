@@ -5,7 +5,6 @@ use mathlib.Core.Path.{_≡_, refl, sym, ap, _∙_}
 use mathlib.Core.Logic.{_≢_, _⊎_, inl, inr, _↔_, ⊎-elim}
 use mathlib.Core.List.{List, [], _∷_, _++_, map, append-assoc, List·Memᴰ, List·Memᴰ·head, List·Memᴰ·cases-cons, List·Memᴰ·eq-of-singleton, List·Memᴰ·append-cases, Memᴰ·append-left, Memᴰ·append-right, Memᴰ·map}
 use lib.IntN.{ℤ, pos, negℤ, natAbs}
-use lib.ListN.{length}
 use Rattle.laws.specs.Each.{Each, each-none, each-cons}
 use Rattle.laws.specs.ListLaws.{NoRepeats, mem-split}
 use Rattle.walk.specs.Words.{StandsIn}
@@ -14,7 +13,7 @@ use Rattle.walk.proofs.Number.{has-number}
 use Rattle.walk.proofs.Literals.{literals-false, literals-consistent}
 use Rattle.walk.proofs.Reached.{literals-in-words}
 use Rattle.walk.proofs.Clause.{literal-stands, clause-written}
-use Rattle.walk.proofs.Rising.{clause-rising, clause-bounded, clause-length}
+use Rattle.walk.proofs.Rising.{clause-rising, clause-bounded}
 use Rattle.walk.proofs.Broken.{walk-clause-breaks}
 use Rattle.graph.specs.declared.Graph.{Graph}
 use Rattle.graph.specs.Arrangement.{Reordering}
@@ -25,7 +24,7 @@ use Rattle.search.proofs.Arrangements.{samePair-tells, image-between, i
 use Rattle.search.proofs.Certificates.{Certified}
 use Rattle.search.proofs.Sound.{BrokenBy}
 
--- ---- false in the graph, rising, few
+-- ---- false in the graph, rising, each pair once
 
 -- all literals are false in the graph
 pub clause-false : (g : Graph) (p : List ℕ) → Reordering (g .order) p → BrokenBy g p g
@@ -63,11 +62,6 @@ clause-numbers g p z h = (
   rising-above 0 (clauseOf g p) (clause-rises g p) (natAbs z) (Memᴰ·map natAbs h),
   rw (pairs-length (g .order)) at (clause-bounded samePair (literalsOf g p) (pairs (g .order)) z h),
 )
-
--- there are at most n(n - 1)/2, so a buffer of that length is always enough
-pub clause-fits : (g : Graph) (p : List ℕ) → length (clauseOf g p) ≤ pairCount (g .order)
-unfolding clauseOf
-clause-fits g p = rw (pairs-length (g .order)) at (clause-length samePair (literalsOf g p) (pairs (g .order)))
 
 -- ---- pairs before a pair, by number
 

@@ -1,8 +1,12 @@
 -- Sound: every fully drawn graph of the same order and blocks that breaks the clause of a certificate has a permitted copy strictly earlier.
 use Prim.Native.Nat.{ℕ}
-use mathlib.Core.Path.{_≡_, refl, sym, _∙_, subst}
+use native.Mathlib.Omega.{arith}
+use mathlib.Core.Path.{_≡_, refl, sym, ap₂, _∙_, subst}
 use mathlib.Core.Logic.{_↔_}
 use mathlib.Core.List.{List, _∷_, List·Memᴰ, List·Memᴰ·head, Memᴰ·append-left, Memᴰ·append-right}
+use lib.IntN.{ℤ}
+use lib.ListN.{length, take, drop}
+use lib.Seq.{take-append-seam}
 use Rattle.laws.specs.Each.{Each}
 use Rattle.walk.specs.Clause.{BreaksClause}
 use Rattle.walk.specs.Earlier.{Earlier, copy, LexLess}
@@ -14,10 +18,14 @@ use Rattle.graph.specs.Pairs.{pairs, entryAt}
 use Rattle.graph.specs.Order.{EarlierGraph, matrixWord}
 use Rattle.graph.proofs.Relabelling.{relabelled-order, relabelled-formed, relabelled-drawn}
 use Rattle.graph.proofs.OrderLaws.{same-order}
+use Rattle.search.specs.declared.Judged.{Judged}
 use Rattle.search.specs.Judging.{image, walkAll, literalsOf, clauseOf}
+use Rattle.search.specs.Answer.{told, without, judgeAnswer, judgeBuffer}
 use Rattle.search.proofs.Arrangements.{samePair-tells, images-inside}
 use Rattle.search.proofs.Judgements.{walk-stands}
-use Rattle.search.proofs.Certificates.{Certified}
+use Rattle.search.proofs.Certificates.{Certified, first-certified}
+use Rattle.search.proofs.Exact.{InWords, malformed, cramped, cut-off, none-smaller, found-smaller, judged-in-words}
+use Rattle.search.proofs.Buffer.{literals-counted, buffer-written}
 use Rattle.search.proofs.Images.{relabelled-image}
 
 -- ---- the words of the statement
@@ -85,3 +93,39 @@ module _ (g : Graph) (p : List ℕ) (c : Certified g p) where
   -- and in the published order
   pub sound-published : (h : Graph) → FullGraph (g .order) (g .starts) h → BrokenBy g p h → LexLess (matrixWord (relabelled h p)) (matrixWord h)
   sound-published h f b = copy-published h (f .formed) (f .full) p .1 (sound h f b .earlier)
+
+-- ---- what judging writes
+
+-- judging g says "smaller"
+abbrev pub SaysSmaller : Graph → ℕ → List ℤ → Type 0
+SaysSmaller g budget buffer = told (judgeAnswer g budget (length buffer) .verdict) .code ≡ 1
+
+-- the literals that it writes at the buffer's start
+abbrev pub written : Graph → ℕ → List ℤ → List ℤ
+written g budget buffer = take (judgeAnswer g budget (length buffer) .literals) (judgeBuffer g budget buffer)
+
+-- the arrangement that goes with "smaller" is a certificate
+smaller-certified : (g : Graph) (budget room : ℕ) → told (judgeAnswer g budget room .verdict) .code ≡ 1 → Certified g (judgeAnswer g budget room .arrangement)
+unfolding told without
+smaller-certified g budget room = at (judged-in-words g budget room)
+  where
+    at : {a : Judged} → InWords g budget room a → told (a .verdict) .code ≡ 1 → Certified g (a .arrangement)
+    at (malformed no-graph) e = absurd (omega arith)
+    at (cramped w h) e = absurd (omega arith)
+    at (cut-off w h l) e = absurd (omega arith)
+    at (none-smaller w h l nowhere) e = absurd (omega arith)
+    at (found-smaller w h l f) e = first-certified f
+
+module _ (g : Graph) (budget : ℕ) (buffer : List ℤ) (says : SaysSmaller g budget buffer) where
+  -- and the literals are its clause
+  written-is : written g budget buffer ≡ clauseOf g (judgeAnswer g budget (length buffer) .arrangement)
+  written-is =
+      let lits : List ℤ = clauseOf g (judgeAnswer g budget (length buffer) .arrangement) in
+      ap₂ take (literals-counted g budget (length buffer) says) (buffer-written g budget buffer says) ∙ take-append-seam lits (drop (length lits) buffer)
+
+  -- so every fully drawn graph of its order and blocks that breaks what judging writes has by the arrangement given a permitted copy strictly earlier
+  pub written-sound : (h : Graph) → FullGraph (g .order) (g .starts) h → BreaksClause (pairs (g .order)) (written g budget buffer) (entryAt h)
+      → EarlierCopy h (judgeAnswer g budget (length buffer) .arrangement)
+  written-sound h f b =
+      sound g (judgeAnswer g budget (length buffer) .arrangement) (smaller-certified g budget (length buffer) says) h f
+      (subst (λ (lits : List ℤ). BreaksClause (pairs (g .order)) lits (entryAt h)) written-is b)
