@@ -1,14 +1,18 @@
 -- The clause of a certificate: its literals are those of the rules, all are false in the graph, and they are written once each, by rising pair number.
-use Prim.Native.Nat.{ℕ, _≤_, _<_}
+use Prim.Native.Nat.{ℕ, _-_, _≤_, _<_}
 use native.Mathlib.Omega.{arith}
 use mathlib.Core.Path.{_≡_, refl, sym, ap, _∙_}
 use mathlib.Core.Logic.{_≢_, _⊎_, inl, inr, _↔_, ⊎-elim}
 use mathlib.Core.List.{List, [], _∷_, _++_, map, append-assoc, List·Memᴰ, List·Memᴰ·head, List·Memᴰ·cases-cons, List·Memᴰ·eq-of-singleton, List·Memᴰ·append-cases, Memᴰ·append-left, Memᴰ·append-right, Memᴰ·map}
-use lib.IntN.{ℤ, pos, negℤ, natAbs}
+use lib.IntN.{ℤ, pos, negsuc, negℤ, natAbs}
+use lib.ListN.{getD}
+use Rattle.laws.specs.Test.{both, either, pick}
+use Rattle.laws.specs.UpTo.{wordUpTo, listUpTo}
 use Rattle.laws.specs.Each.{Each, each-none, each-cons}
 use Rattle.laws.specs.ListLaws.{NoRepeats, mem-split}
+use Rattle.walk.specs.Walk.{won, lost, step, ending, walk}
 use Rattle.walk.specs.Words.{StandsIn}
-use Rattle.walk.specs.Clause.{Literal, absent, present, pairIn, signed, Met, Numbered, Written, RisingAbove}
+use Rattle.walk.specs.Clause.{Literal, absent, present, pairIn, signed, Met, met, literals, Numbered, sameLiteral, among, numbered, clauseAfter, clause, Written, RisingAbove}
 use Rattle.walk.proofs.Number.{has-number}
 use Rattle.walk.proofs.Literals.{literals-false, literals-consistent}
 use Rattle.walk.proofs.Reached.{literals-in-words}
@@ -16,10 +20,11 @@ use Rattle.walk.proofs.Clause.{literal-stands, clause-written}
 use Rattle.walk.proofs.Rising.{clause-rising, clause-bounded}
 use Rattle.walk.proofs.Broken.{walk-clause-breaks}
 use Rattle.graph.specs.declared.Graph.{Graph}
-use Rattle.graph.specs.Arrangement.{Reordering}
-use Rattle.graph.specs.Pairs.{Pair, pairs, pairCount, entryAt}
+use Rattle.graph.specs.Graph.{placed, mirrored, drawn}
+use Rattle.graph.specs.Arrangement.{Reordering, placeOf, inverse}
+use Rattle.graph.specs.Pairs.{Pair, pair, alongRow, fromRow, pairs, pairCount, number, entryAt}
 use Rattle.graph.proofs.PairLaws.{Between, numberOf, pairs-given, pairs-has, pairs-length, split-number, before-smaller}
-use Rattle.search.specs.Judging.{samePair, image, literalsOf, clauseOf}
+use Rattle.search.specs.Judging.{samePair, pairOfTwo, image, walkAll, literalsOf, clauseOf, padded}
 use Rattle.search.proofs.Arrangements.{samePair-tells, image-between, images-inside}
 use Rattle.search.proofs.Certificates.{Certified}
 use Rattle.search.proofs.Sound.{BrokenBy}
@@ -186,3 +191,16 @@ clause-in-words g p c z = (
   λ h. written-said g p (c .permitted .reordering) (c .pair) (c .standing) z (clause-written samePair-tells (literalsOf g p) (pairs (g .order)) z h),
   said-stands g p (c .permitted .reordering) (c .pair) (c .standing) z,
 )
+
+-- ---- one computed
+
+-- the entries 1, unknown, 0, and an arrangement that isn't its own inverse: (1, 2) is standing under it, and under the inverse no pair is
+abbrev drawing : Graph
+drawing = drawn 3 1 (λ i j. getD (1 ∷ 2 ∷ 0 ∷ []) (number 3 i j - 1) 0)
+
+abbrev turning : List ℕ
+turning = padded (2 ∷ 3 ∷ 1 ∷ [])
+
+computed : (walkAll drawing turning ≡ won (pair 1 2)) × (clauseOf drawing turning ≡ negsuc 0 ∷ pos 3 ∷ []) × (walkAll drawing (inverse 3 turning) ≡ lost)
+unfolding both either pick wordUpTo listUpTo step ending walk met literals sameLiteral among numbered clauseAfter clause placed mirrored drawn alongRow fromRow pairs placeOf inverse samePair pairOfTwo image padded walkAll literalsOf clauseOf
+computed = (refl, refl, refl)

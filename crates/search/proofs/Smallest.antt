@@ -161,7 +161,7 @@ descend (suc m) h w d l = at (certified-or-none h w) (descend m)
         omega (
           arith,
           earlier-lighter (entryAt (relabelled h p)) (entryAt h) (pairs (relabelled h p .order)) (λ k n. relabelled-drawn h p w d .known (k .row) (k .column)) e,
-          ap (λ (n : ℕ). weight (entryAt h) (pairs n)) (relabelled-order h p w)
+          ap (λ (n : ℕ). weight (entryAt h) (pairs n)) (relabelled-order h p w),
         )
 
     at : ((p : List ℕ) × Certified h p) ⊎ ((p : List ℕ) → ¬ Certified h p)
