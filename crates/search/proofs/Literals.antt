@@ -10,7 +10,7 @@ use Rattle.laws.specs.Test.{both, either, pick}
 use Rattle.laws.specs.UpTo.{wordUpTo, listUpTo}
 use Rattle.laws.specs.Each.{Each, each-none, each-cons}
 use Rattle.laws.specs.ListLaws.{NoRepeats, mem-split}
-use Rattle.walk.specs.Walk.{won, lost, step, ending, walk}
+use Rattle.walk.specs.Walk.{won, step, ending, walk}
 use Rattle.walk.specs.Words.{StandsIn}
 use Rattle.walk.specs.Clause.{Literal, absent, present, pairIn, signed, Met, met, literals, Numbered, sameLiteral, among, numbered, clauseAfter, clause, Written, RisingAbove}
 use Rattle.walk.proofs.Number.{has-number}
@@ -194,13 +194,14 @@ clause-in-words g p c z = (
 
 -- ---- one computed
 
--- the entries 1, unknown, 0, and an arrangement that isn't its own inverse: (1, 2) is standing under it, and under the inverse no pair is
+-- the entries 1, 1, 0, and an arrangement that isn't its own inverse: the two have different standing pairs and clauses
 abbrev drawing : Graph
-drawing = drawn 3 1 (λ i j. getD (1 ∷ 2 ∷ 0 ∷ []) (number 3 i j - 1) 0)
+drawing = drawn 3 1 (λ i j. getD (1 ∷ 1 ∷ 0 ∷ []) (number 3 i j - 1) 0)
 
 abbrev turning : List ℕ
 turning = padded (2 ∷ 3 ∷ 1 ∷ [])
 
-computed : (walkAll drawing turning ≡ won (pair 1 2)) × (clauseOf drawing turning ≡ negsuc 0 ∷ pos 3 ∷ []) × (walkAll drawing (inverse 3 turning) ≡ lost)
+computed : (walkAll drawing turning ≡ won (pair 1 2)) × (clauseOf drawing turning ≡ negsuc 0 ∷ pos 3 ∷ [])
+    × (walkAll drawing (inverse 3 turning) ≡ won (pair 1 3)) × (clauseOf drawing (inverse 3 turning) ≡ negsuc 0 ∷ negsuc 1 ∷ pos 3 ∷ [])
 unfolding both either pick wordUpTo listUpTo step ending walk met literals sameLiteral among numbered clauseAfter clause placed mirrored drawn alongRow fromRow pairs placeOf inverse samePair pairOfTwo image padded walkAll literalsOf clauseOf
-computed = (refl, refl, refl)
+computed = (refl, refl, refl, refl)
