@@ -12,3 +12,8 @@ pub mod Count
 pub mod Buffer
 pub mod Searching
 pub mod CodeSearch
+pub mod Images
+pub mod Sound
+pub mod Literals
+pub mod Smallest
+pub mod Survival
