@@ -180,7 +180,10 @@ impl Graph {
 
     /// The start of the block in which a vertex lies.
     pub fn block(&self, vertex: u32) -> u32 {
-        (1..=vertex).rev().find(|v| self.starts >> (v - 1) & 1 == 1).expect("vertex 1 starts a block")
+        (1..=vertex)
+            .rev()
+            .find(|v| self.starts >> (v - 1) & 1 == 1)
+            .expect("vertex 1 starts a block")
     }
 
     /// Whether no entry is unknown.

@@ -123,9 +123,10 @@ impl Board<'_> {
 
     /// Fills the places from `place` on with the smallest unused vertex of their block.
     fn fill(&self, vertices: &mut [u8; 32], place: usize, mut used: u32) {
-        for place in place..self.order {
-            let vertex = (self.blocks[place] & !used).trailing_zeros();
-            vertices[place] = vertex as u8;
+        let empty = vertices.iter_mut().zip(&self.blocks).take(self.order).skip(place);
+        for (slot, block) in empty {
+            let vertex = (block & !used).trailing_zeros();
+            *slot = vertex as u8;
             used |= 1 << vertex;
         }
     }
@@ -210,8 +211,8 @@ fn write_clause(
     }
     let mut length = 0;
     let mut before_row = 0;
-    for row in 0..order {
-        let mut left = named[row];
+    for (row, &columns) in named.iter().enumerate().take(order) {
+        let mut left = columns;
         while left != 0 {
             let column = left.trailing_zeros() as usize;
             left &= left - 1;

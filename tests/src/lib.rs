@@ -17,3 +17,13 @@ pub mod record;
 pub mod samples;
 pub mod smallest;
 pub mod verdict;
+
+/// A way to judge a graph value.
+pub type Judge = fn(&graph::Graph, u32, &mut [i32]) -> verdict::Judgement;
+
+/// All that judge quickly: the oracle, and the proved library where it is linked.
+pub const JUDGES: &[Judge] = &[
+    judge::judge,
+    #[cfg(feature = "library")]
+    library::judge,
+];

@@ -56,9 +56,7 @@ pub struct Reading<'a> {
 /// Reads the record at the start of the bytes; refusals 1, 2, 1, 3, 4.
 pub fn read(bytes: &[u8]) -> Reading<'_> {
     match graph_of(bytes) {
-        Ok(graph) => {
-            Reading { graph, refusal: None, follows: &bytes[record_size(graph.order)..] }
-        }
+        Ok(graph) => Reading { graph, refusal: None, follows: &bytes[record_size(graph.order)..] },
         Err(refusal) => Reading { graph: Graph::ZERO, refusal: Some(refusal), follows: bytes },
     }
 }
@@ -91,7 +89,7 @@ fn graph_of(bytes: &[u8]) -> Result<Graph, Refusal> {
             }
         }
     }
-    while reader.place % 8 != 0 {
+    while !reader.place.is_multiple_of(8) {
         if reader.field(1)? == 1 {
             return Err(Refusal::plain(4));
         }

@@ -3,9 +3,25 @@
 use crate::arrangement::relabel;
 use crate::graph::{EDGE, Graph, NON_EDGE, UNKNOWN};
 use crate::judge::judge;
-use crate::pairs::pairs;
+use crate::pairs::{pair_count, pairs};
 use crate::random::Random;
+use crate::smallest::all_starts;
 use crate::verdict::Verdict;
+
+/// Every graph of an order, with every choice of blocks.
+pub fn every_graph(order: u32) -> impl Iterator<Item = Graph> {
+    all_starts(order).flat_map(move |starts| {
+        (0..3u32.pow(pair_count(order))).map(move |number| {
+            let mut graph = Graph { starts, ..Graph::empty(order) };
+            let mut rest = number;
+            for (i, j) in pairs(order) {
+                graph.put(i, j, rest % 3);
+                rest /= 3;
+            }
+            graph
+        })
+    })
+}
 
 /// Random block starts, each vertex above 1 with this chance in a hundred.
 pub fn starts(random: &mut Random, order: u32, percent: u32) -> u32 {

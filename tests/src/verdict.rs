@@ -29,9 +29,9 @@ impl Judgement {
     /// The steps told; 0 for a refusal.
     pub fn steps(&self) -> u32 {
         match self.verdict {
-            Verdict::Smaller { steps, .. } | Verdict::Nothing { steps } | Verdict::Cut { steps } => {
-                steps
-            }
+            Verdict::Smaller { steps, .. }
+            | Verdict::Nothing { steps }
+            | Verdict::Cut { steps } => steps,
             Verdict::Refused(_) => 0,
         }
     }

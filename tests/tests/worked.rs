@@ -1,20 +1,22 @@
-//! The worked graphs of the rules, through both ways of judging.
+//! The worked graphs of the rules, through every way of judging.
 
+use oracle::JUDGES;
 use oracle::arrangement::listed;
 use oracle::baseline::{self, Ending};
 use oracle::graph::{Graph, Refusal};
-use oracle::judge::judge;
 use oracle::judge_plain::judge_plain;
 use oracle::record::{read, record};
 use oracle::verdict::{Judgement, Verdict};
 
-/// Judges in both ways, which must agree, and in C; gives the clause too.
+/// Judges in every way, all of which must agree; gives the clause too.
 fn judged(graph: &Graph, budget: u32) -> (Judgement, Vec<i32>) {
     let mut literals = [7777; 496];
-    let mut plain_literals = [7777; 496];
-    let judgement = judge(graph, budget, &mut literals);
-    assert_eq!(judgement, judge_plain(graph, budget, &mut plain_literals));
-    assert_eq!(literals, plain_literals);
+    let judgement = judge_plain(graph, budget, &mut literals);
+    for judge in JUDGES {
+        let mut others = [7777; 496];
+        assert_eq!(judge(graph, budget, &mut others), judgement);
+        assert_eq!(others, literals);
+    }
     let (ending, steps) = baseline::search(graph, budget);
     assert_eq!((Some(ending), steps), (Ending::of(&judgement.verdict), judgement.steps()));
     (judgement, literals[..judgement.literals].to_vec())
@@ -89,10 +91,10 @@ fn edges_of_the_record() {
 #[test]
 fn literals_of_order_32() {
     let graph = Graph::empty(32);
-    let refusal = |buffer: &mut [i32]| match judge(&graph, 10, buffer).verdict {
-        Verdict::Refused(refusal) => Some(refusal),
-        _ => None,
-    };
-    assert_eq!(refusal(&mut [0; 496]), None);
-    assert_eq!(refusal(&mut [0; 495]), Some(Refusal { number: 5, place: 0 }));
+    for judge in JUDGES {
+        let cut = Judgement::without(Verdict::Cut { steps: 10 });
+        assert_eq!(judge(&graph, 10, &mut [0; 496]), cut);
+        let refused = Judgement::without(Verdict::Refused(Refusal { number: 5, place: 0 }));
+        assert_eq!(judge(&graph, 10, &mut [0; 495]), refused);
+    }
 }
