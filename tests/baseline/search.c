@@ -17,6 +17,19 @@ static bool same_pair(uint32_t x, uint32_t y, uint32_t i, uint32_t j)
     return (x == i && y == j) || (x == j && y == i);
 }
 
+/*
+ * For each place k after this first vertex, the vertices that decide the pair
+ * (1, k): they win where it is an edge, and lose where it isn't.
+ */
+static void set_stops(uint32_t order, uint32_t first_edges, uint32_t first, uint32_t zeros,
+                      uint32_t stops[32])
+{
+    for (uint32_t k = 1; k < order; k++) {
+        const uint32_t itself = first == 0 ? UINT32_C(1) << k : first == k;
+        stops[k] = first_edges >> k & 1 ? zeros : ~(zeros | itself);
+    }
+}
+
 /* Rows 2 and up at length n: whether the first pair that decides wins. */
 static bool walk_wins(uint32_t order, const uint32_t *restrict edges,
                       const uint32_t *restrict non_edges, const uint32_t *restrict vertices)
@@ -28,13 +41,12 @@ static bool walk_wins(uint32_t order, const uint32_t *restrict edges,
         for (uint32_t j = i + 1; j < order; j++) {
             edge_bits >>= 1;
             const uint32_t y = vertices[j];
-            const uint32_t is_edge = edge_bits & 1;
-            if (is_edge == (row >> y & 1)) {
-                if (is_edge)
-                    return true;
-                if (!same_pair(x, y, i, j))
-                    return false;
-            }
+            if ((row >> y ^ edge_bits) & 1)
+                continue;
+            if (edge_bits & 1)
+                return true;
+            if (!same_pair(x, y, i, j))
+                return false;
         }
     }
     return false;
@@ -43,7 +55,7 @@ static bool walk_wins(uint32_t order, const uint32_t *restrict edges,
 uint64_t baseline_search(uint32_t order, const uint32_t edges[32], const uint32_t unknowns[32],
                          uint32_t starts, uint32_t budget)
 {
-    uint32_t non_edges[32], blocks[32], untried[32], vertices[32];
+    uint32_t non_edges[32], blocks[32], untried[32], vertices[32], stops[32];
     const uint32_t last = order - 1;
     const uint32_t first_edges = edges[0];
 
@@ -61,7 +73,7 @@ uint64_t baseline_search(uint32_t order, const uint32_t edges[32], const uint32_
 
     uint32_t steps = 0, used = 0, place = 0;
     uint32_t left = blocks[0];  /* the vertices still to be tried at this place */
-    uint32_t first = 0, first_row = 0;
+    stops[0] = 0;
     for (;;) {
         if (left == 0) {
             if (place == 0)
@@ -77,20 +89,12 @@ uint64_t baseline_search(uint32_t order, const uint32_t edges[32], const uint32_
         const uint32_t vertex = (uint32_t)__builtin_ctz(left);
         left &= left - 1;
         vertices[place] = vertex;
-        if (place == 0) {
-            first = vertex;
-            first_row = non_edges[vertex];
-        }
-
-        /* The pair (1, k); at place 0 the diagonal reads as 0 against 0 and stays open. */
-        const uint32_t is_edge = first_edges >> place & 1;
-        if (is_edge == (first_row >> vertex & 1)) {
-            if (is_edge)
+        if (stops[place] >> vertex & 1) {
+            if (first_edges >> place & 1)
                 return answer(SMALLER, steps);
-            if (!same_pair(first, vertex, 0, place))
-                continue;
-        }
-        if (place < last) {
+        } else if (place < last) {
+            if (place == 0)
+                set_stops(order, first_edges, vertex, non_edges[vertex], stops);
             untried[place] = left;
             used |= UINT32_C(1) << vertex;
             place++;

@@ -66,15 +66,28 @@ impl Board<'_> {
         None
     }
 
+    /// For each place k after this first vertex, the vertices that decide the
+    /// pair (1, k): they win where it is an edge, and lose where it isn't.
+    fn set_stops(&self, stops: &mut [u32; 32], first: u32) {
+        let zeros = self.non_edges[first as usize & 31];
+        for place in 1..self.order {
+            let itself = match first {
+                0 => 1 << place,
+                _ => u32::from(first as usize == place),
+            };
+            let is_edge = self.edges[0] >> place & 1 == 1;
+            stops[place & 31] = if is_edge { zeros } else { !(zeros | itself) };
+        }
+    }
+
     /// Tries beginnings in dictionary order until one is won or the budget is spent.
     ///
     /// A reached beginning differs from its shorter ones by the pair (1, k) alone,
     /// so a step judges that pair; at length n it walks on through the other rows.
-    /// The pair (1, 1), met at length 1, reads as 0 against 0 and leaves it open.
     fn search(&self, budget: u32) -> Found {
         let last = self.order - 1;
-        let first_edges = self.edges[0];
         let mut vertices = [0u8; 32];
+        let mut stops = [0u32; 32];
         let mut untried = [0u32; 32];
         let mut used = 0u32;
         let mut place = 0usize;
@@ -98,19 +111,15 @@ impl Board<'_> {
             left &= left - 1;
             vertices[place & 31] = vertex as u8;
 
-            let first = vertices[0];
-            let is_edge = first_edges >> place & 1;
-            let is_non_edge = self.non_edges[usize::from(first & 31)] >> vertex & 1;
-            if is_edge == is_non_edge {
-                if is_edge == 1 {
+            if stops[place & 31] >> vertex & 1 == 1 {
+                if self.edges[0] >> place & 1 == 1 {
                     self.fill(&mut vertices, place + 1, used | 1 << vertex);
                     return Found::Won { vertices, row: 0, column: place, steps };
                 }
-                if !same_pair((usize::from(first), vertex as usize), (0, place)) {
-                    continue;
+            } else if place < last {
+                if place == 0 {
+                    self.set_stops(&mut stops, vertex);
                 }
-            }
-            if place < last {
                 untried[place & 31] = left;
                 used |= 1 << vertex;
                 place += 1;

@@ -47,7 +47,7 @@ fn on_every_graph_up_to_order_4() {
 #[test]
 fn on_random_graphs_up_to_order_6() {
     let mut random = Random::new(3);
-    for round in 0..2_000 {
+    for round in 0..1_000 {
         let graph = samples::graph(&mut random, 5 + round % 2);
         agree_on_budgets(&graph);
         agree_on_budgets(&samples::settled(graph, u32::MAX));

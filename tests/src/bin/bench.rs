@@ -2,7 +2,9 @@
 //! library (with the feature `library`), the Rust judge and the C baseline.
 //!
 //! The library and Rust check the graph and write the clause; C only searches.
+//! Arguments name the kinds to measure: easy, hard, cut, bare; all without any.
 
+use std::env;
 use std::hint::black_box;
 use std::time::{Duration, Instant};
 
@@ -12,30 +14,26 @@ use oracle::random::Random;
 use oracle::verdict::Verdict;
 use oracle::{baseline, samples};
 
-/// Graphs of one kind and order, all judged with one budget.
+/// Graphs of one kind and order, judged with one budget.
 struct Case {
-    kind: &'static str,
-    order: u32,
     graphs: Vec<Graph>,
     budget: u32,
 }
 
-/// A contender judges a graph with a budget and tells the steps.
-type Contender = (&'static str, fn(&Graph, u32) -> u32);
+/// A contender judges a graph with a budget and a literal buffer, and tells the steps.
+type Contender = (&'static str, fn(&Graph, u32, &mut [i32; 496]) -> u32);
 
-fn rust_steps(graph: &Graph, budget: u32) -> u32 {
-    judge(graph, budget, black_box(&mut [0; 496])).steps()
+fn rust_steps(graph: &Graph, budget: u32, literals: &mut [i32; 496]) -> u32 {
+    judge(graph, budget, literals).steps()
 }
 
-fn c_steps(graph: &Graph, budget: u32) -> u32 {
+fn c_steps(graph: &Graph, budget: u32, _: &mut [i32; 496]) -> u32 {
     baseline::search(graph, budget).1
 }
 
 #[cfg(feature = "library")]
-fn library_steps(graph: &Graph, budget: u32) -> u32 {
-    let mut arrangement = [0; 32];
-    let literals = black_box(&mut [0; 496]);
-    oracle::library::judge_rows(graph, budget, literals, black_box(&mut arrangement)) as u32
+fn library_steps(graph: &Graph, budget: u32, literals: &mut [i32; 496]) -> u32 {
+    oracle::library::judge_rows(graph, budget, literals, &mut [0; 32]) as u32
 }
 
 const CONTENDERS: &[Contender] = &[
@@ -49,7 +47,7 @@ const CONTENDERS: &[Contender] = &[
 fn easy(order: u32) -> Case {
     let mut random = Random::new(100 + u64::from(order));
     let graphs = (0..64).map(|_| samples::sprinkled(&mut random, order, 35, 30)).collect();
-    Case { kind: "easy", order, graphs, budget: u32::MAX }
+    Case { graphs, budget: u32::MAX }
 }
 
 /// Smallest graphs with few unknowns, in blocks that keep the search finite.
@@ -71,7 +69,7 @@ fn hard(order: u32) -> Case {
             graphs.push(graph);
         }
     }
-    Case { kind: "hard", order, graphs, budget: u32::MAX }
+    Case { graphs, budget: u32::MAX }
 }
 
 /// Graphs in one block on which the budget ends the search.
@@ -86,20 +84,27 @@ fn cut(order: u32) -> Case {
             graphs.push(graph);
         }
     }
-    Case { kind: "cut", order, graphs, budget }
+    Case { graphs, budget }
 }
 
 /// The graph without edges: every walk at length n meets every pair.
 fn bare(order: u32) -> Case {
-    Case { kind: "bare", order, graphs: vec![Graph::empty(order)], budget: 100_000 }
+    Case { graphs: vec![Graph::empty(order)], budget: 100_000 }
 }
+
+/// A kind of graphs, and its case for an order.
+type Kind = (&'static str, fn(u32) -> Case);
+
+const KINDS: &[Kind] = &[("easy", easy), ("hard", hard), ("cut", cut), ("bare", bare)];
 
 /// The time of this many rounds over all graphs of a case.
 fn timed(case: &Case, contender: &Contender, rounds: u32) -> Duration {
+    let mut literals = [0; 496];
     let start = Instant::now();
     for _ in 0..rounds {
         for graph in &case.graphs {
-            black_box(contender.1(black_box(graph), black_box(case.budget)));
+            let steps = contender.1(black_box(graph), black_box(case.budget), &mut literals);
+            black_box((steps, &mut literals));
         }
     }
     start.elapsed()
@@ -133,16 +138,23 @@ fn main() {
         print!("{:>16}{:>10}", format!("{name} ns"), "a step");
     }
     println!();
-    for make in [easy, hard, cut, bare] {
+    let asked: Vec<String> = env::args().skip(1).collect();
+    for (kind, make) in KINDS {
+        if !asked.is_empty() && !asked.iter().any(|name| name == kind) {
+            continue;
+        }
         for order in [8, 16, 24, 32] {
             let case = make(order);
             let steps_of = |contender: &Contender| -> Vec<u32> {
-                case.graphs.iter().map(|graph| contender.1(graph, case.budget)).collect()
+                case.graphs
+                    .iter()
+                    .map(|graph| contender.1(graph, case.budget, &mut [0; 496]))
+                    .collect()
             };
             let steps = steps_of(&CONTENDERS[0]);
             assert!(CONTENDERS.iter().all(|contender| steps_of(contender) == steps));
             let mean = steps.iter().map(|&s| f64::from(s)).sum::<f64>() / steps.len() as f64;
-            print!("{:<6}{:>6}{:>12.1}", case.kind, case.order, mean);
+            print!("{kind:<6}{order:>6}{mean:>12.1}");
             for time in measure(&case) {
                 print!("{:>16.1}{:>10.3}", time, time / mean);
             }
