@@ -17,3 +17,5 @@ pub mod Sound
 pub mod Literals
 pub mod Smallest
 pub mod Survival
+pub mod CodeCertificate
+pub mod Completing

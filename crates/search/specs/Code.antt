@@ -30,6 +30,13 @@ walkCode t (k ∷ ks) =
     let rest = walkCode t ks in
     pick (eqb (t k) 0) rest (t k)
 
+-- that pair, or (0, 0)
+unfoldable pub firstPair : (Pair → ℕ) → List Pair → Pair
+firstPair t [] = pair 0 0
+firstPair t (k ∷ ks) =
+    let rest = firstPair t ks in
+    pick (eqb (t k) 0) rest k
+
 -- how the first k places of p are judged, by the pairs that come with place k: none at place 1, (1, k), and at place n all later ones
 unfoldable pub lastCode : List ℕ → List ℕ → List ℕ → ℕ → ℕ → ℕ
 lastCode edges unknowns p n k =

@@ -46,7 +46,7 @@ fn last_turn<'a>(
 }
 
 // A place of the path as it is stored: the vertex at bit v.
-fn stored(v: u32) -> u8
+pub fn stored(v: u32) -> u8
     requires { ⌜ v < 32 ⌝ }
     ensures { λ r. ⌜ r ≡ v + 1 ⌝ }
 {
@@ -54,7 +54,7 @@ fn stored(v: u32) -> u8
 }
 
 // The weight of a stored vertex in a mask.
-fn weight_of(v: u8) -> u32
+pub fn weight_of(v: u8) -> u32
     requires { ⌜ (1 ≤ v) × (v ≤ 32) ⌝ }
     ensures { λ r. ⌜ r ≡ 2 ^ (v - 1) ⌝ }
 {
