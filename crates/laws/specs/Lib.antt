@@ -13,3 +13,4 @@ pub mod Pigeonhole
 pub mod SumLaws
 pub mod Each
 pub mod Chosen
+pub mod Masks

@@ -1,0 +1,36 @@
+//! Compiles the C baseline, and names the proved library where it is asked for.
+
+use std::env;
+use std::path::PathBuf;
+use std::process::Command;
+
+fn run(command: &mut Command) {
+    let status = command.status().expect("the command starts");
+    assert!(status.success(), "{command:?} failed");
+}
+
+fn main() {
+    let home = PathBuf::from(env::var("CARGO_MANIFEST_DIR").unwrap());
+    let out = PathBuf::from(env::var("OUT_DIR").unwrap());
+
+    let source = home.join("baseline/search.c");
+    let object = out.join("search.o");
+    let archive = out.join("libbaseline.a");
+    run(Command::new("cc")
+        .args(["-std=c11", "-O3", "-Wall", "-Wextra", "-Werror", "-fPIC", "-c"])
+        .arg(&source)
+        .arg("-o")
+        .arg(&object));
+    run(Command::new("ar").arg("rcs").arg(&archive).arg(&object));
+    println!("cargo:rustc-link-search=native={}", out.display());
+    println!("cargo:rustc-link-lib=static=baseline");
+    println!("cargo:rerun-if-changed={}", source.display());
+
+    if env::var_os("CARGO_FEATURE_LIBRARY").is_some() {
+        let folder = home.join("../target/staticlib");
+        println!("cargo:rustc-link-search=native={}", folder.display());
+        println!("cargo:rustc-link-lib=static=cafruzek");
+        println!("cargo:rerun-if-changed={}", folder.join("libcafruzek.a").display());
+    }
+    println!("cargo:rerun-if-changed=build.rs");
+}

@@ -1,0 +1,260 @@
+//! Judging with row masks: the same answers as `judge_plain`, for every order.
+//!
+//! Inside this file places, vertices and rows count from 0.
+
+use crate::graph::{Graph, Refusal};
+use crate::pairs::pair_count;
+use crate::verdict::{Judgement, Verdict};
+
+/// What the search found.
+pub enum Found {
+    /// A won beginning, filled up to an arrangement, with its standing pair.
+    Won { vertices: [u8; 32], row: usize, column: usize, steps: u32 },
+    /// Every reached beginning was tried and none is won.
+    Nothing { steps: u32 },
+    /// The budget was spent first.
+    Cut,
+}
+
+/// What the search reads: rows of edges and of non-edges, the place's blocks.
+struct Board<'a> {
+    order: usize,
+    edges: &'a [u32; 32],
+    non_edges: [u32; 32],
+    blocks: [u32; 32],
+}
+
+impl Board<'_> {
+    fn new(graph: &Graph) -> Board<'_> {
+        let order = graph.order as usize;
+        let mut non_edges = [0; 32];
+        let mut blocks = [0; 32];
+        let mut block = 0;
+        for place in 0..order {
+            non_edges[place] = !(graph.edges[place] | graph.unknowns[place]);
+            if graph.starts >> place & 1 == 1 {
+                // From this start up to the next one, or to the order.
+                let next = (graph.starts >> place >> 1).trailing_zeros() as usize + place + 1;
+                block = below(next.min(order)) & !below(place);
+            }
+            blocks[place] = block;
+        }
+        Board { order, edges: &graph.edges, non_edges, blocks }
+    }
+
+    /// The rest of the walk at length n, from row 2 to the first pair that
+    /// decides: that pair, if it wins.
+    fn walk_on(&self, vertices: &[u8; 32]) -> Option<(usize, usize)> {
+        for row in 1..self.order {
+            let to = vertices[row & 31];
+            let mut edges = self.edges[row] >> row;
+            let non_edges = self.non_edges[usize::from(to & 31)];
+            for column in row + 1..self.order {
+                edges >>= 1;
+                let other = vertices[column & 31];
+                let is_edge = edges & 1;
+                if is_edge == non_edges >> (other & 31) & 1 {
+                    if is_edge == 1 {
+                        return Some((row, column));
+                    }
+                    if !same_pair((usize::from(to), usize::from(other)), (row, column)) {
+                        return None;
+                    }
+                }
+            }
+        }
+        None
+    }
+
+    /// For each place k after this first vertex, the vertices that decide the
+    /// pair (1, k): they win where it is an edge, and lose where it isn't.
+    fn set_stops(&self, stops: &mut [u32; 32], first: u32) {
+        let zeros = self.non_edges[first as usize & 31];
+        for place in 1..self.order {
+            let itself = match first {
+                0 => 1 << place,
+                _ => u32::from(first as usize == place),
+            };
+            let is_edge = self.edges[0] >> place & 1 == 1;
+            stops[place & 31] = if is_edge { zeros } else { !(zeros | itself) };
+        }
+    }
+
+    /// Tries beginnings in dictionary order until one is won or the budget is spent.
+    ///
+    /// A reached beginning differs from its shorter ones by the pair (1, k) alone,
+    /// so a step judges that pair; at length n it walks on through the other rows.
+    fn search(&self, budget: u32) -> Found {
+        let last = self.order - 1;
+        let mut vertices = [0u8; 32];
+        let mut stops = [0u32; 32];
+        let mut untried = [0u32; 32];
+        let mut used = 0u32;
+        let mut place = 0usize;
+        let mut left = self.blocks[0];
+        let mut steps = 0u32;
+        loop {
+            if left == 0 {
+                if place == 0 {
+                    return Found::Nothing { steps };
+                }
+                place -= 1;
+                used ^= 1 << vertices[place & 31];
+                left = untried[place & 31];
+                continue;
+            }
+            if steps == budget {
+                return Found::Cut;
+            }
+            steps += 1;
+            let vertex = left.trailing_zeros();
+            left &= left - 1;
+            vertices[place & 31] = vertex as u8;
+
+            if stops[place & 31] >> vertex & 1 == 1 {
+                if self.edges[0] >> place & 1 == 1 {
+                    self.fill(&mut vertices, place + 1, used | 1 << vertex);
+                    return Found::Won { vertices, row: 0, column: place, steps };
+                }
+            } else if place < last {
+                if place == 0 {
+                    self.set_stops(&mut stops, vertex);
+                }
+                untried[place & 31] = left;
+                used |= 1 << vertex;
+                place += 1;
+                left = self.blocks[place & 31] & !used;
+            } else if let Some((row, column)) = self.walk_on(&vertices) {
+                return Found::Won { vertices, row, column, steps };
+            }
+        }
+    }
+
+    /// Fills the places from `place` on with the smallest unused vertex of their block.
+    fn fill(&self, vertices: &mut [u8; 32], place: usize, mut used: u32) {
+        let empty = vertices.iter_mut().zip(&self.blocks).take(self.order).skip(place);
+        for (slot, block) in empty {
+            let vertex = (block & !used).trailing_zeros();
+            *slot = vertex as u8;
+            used |= 1 << vertex;
+        }
+    }
+}
+
+/// The mask of the vertices below a bound of at most 32.
+fn below(bound: usize) -> u32 {
+    ((1u64 << bound) - 1) as u32
+}
+
+fn same_pair((x, y): (usize, usize), (i, j): (usize, usize)) -> bool {
+    (x, y) == (i, j) || (x, y) == (j, i)
+}
+
+/// The rows with columns for rows.
+fn transposed(rows: &[u32; 32]) -> [u32; 32] {
+    let mut rows = *rows;
+    let mut width = 16;
+    let mut mask = 0x0000_FFFFu32;
+    while width != 0 {
+        for row in (0..32).filter(|row| row & width == 0) {
+            let swapped = (rows[row] >> width ^ rows[row + width]) & mask;
+            rows[row] ^= swapped << width;
+            rows[row + width] ^= swapped;
+        }
+        width >>= 1;
+        mask ^= mask << width;
+    }
+    rows
+}
+
+/// Whether the value is a graph; `Graph::well_formed` with masks.
+pub fn well_formed(graph: &Graph) -> bool {
+    if !(1..=32).contains(&graph.order) {
+        return false;
+    }
+    let inside = below(graph.order as usize);
+    let rows_fit = (0..32).all(|row| {
+        let allowed = if inside >> row & 1 == 1 { inside & !(1 << row) } else { 0 };
+        let (edges, unknowns) = (graph.edges[row], graph.unknowns[row]);
+        (edges | unknowns) & !allowed == 0 && edges & unknowns == 0
+    });
+    rows_fit
+        && graph.starts & 1 == 1
+        && graph.starts & !inside == 0
+        && transposed(&graph.edges) == graph.edges
+        && transposed(&graph.unknowns) == graph.unknowns
+}
+
+/// The search alone, without clause, on a graph that is well formed.
+pub fn search(graph: &Graph, budget: u32) -> Found {
+    Board::new(graph).search(budget)
+}
+
+/// Writes the clause of a certificate and tells how many literals it has.
+///
+/// The pairs named are gathered in row masks and come out rising. All literals
+/// are false in the graph, so a pair is negated exactly where it is an edge.
+fn write_clause(
+    graph: &Graph,
+    vertices: &[u8; 32],
+    (last_row, last_column): (usize, usize),
+    buffer: &mut [i32],
+) -> usize {
+    let order = graph.order as usize;
+    let mut named = [0u32; 32];
+    for row in 0..=last_row {
+        let end = if row == last_row { last_column + 1 } else { order };
+        for column in row + 1..end {
+            let (x, y) = (usize::from(vertices[row]), usize::from(vertices[column]));
+            if same_pair((x, y), (row, column)) {
+                continue;
+            }
+            let is_edge = graph.edges[row] >> column & 1 == 1;
+            if is_edge {
+                named[row] |= 1 << column;
+            }
+            if !is_edge || (row, column) == (last_row, last_column) {
+                named[x.min(y)] |= 1 << x.max(y);
+            }
+        }
+    }
+    let mut length = 0;
+    let mut before_row = 0;
+    for (row, &columns) in named.iter().enumerate().take(order) {
+        let mut left = columns;
+        while left != 0 {
+            let column = left.trailing_zeros() as usize;
+            left &= left - 1;
+            let number = (before_row + column - row) as i32;
+            let negated = graph.edges[row] >> column & 1 == 1;
+            buffer[length] = if negated { -number } else { number };
+            length += 1;
+        }
+        before_row += order - 1 - row;
+    }
+    length
+}
+
+/// Judges a graph; refusals 8, 5. Only "smaller" writes to the buffer.
+pub fn judge(graph: &Graph, budget: u32, buffer: &mut [i32]) -> Judgement {
+    if !well_formed(graph) {
+        return Judgement::without(Verdict::Refused(Refusal::plain(8)));
+    }
+    if buffer.len() < pair_count(graph.order) as usize {
+        return Judgement::without(Verdict::Refused(Refusal::plain(5)));
+    }
+    match search(graph, budget) {
+        Found::Cut => Judgement::without(Verdict::Cut { steps: budget }),
+        Found::Nothing { steps } => Judgement::without(Verdict::Nothing { steps }),
+        Found::Won { vertices, row, column, steps } => {
+            let literals = write_clause(graph, &vertices, (row, column), buffer);
+            let mut arrangement = [0; 32];
+            for place in 0..graph.order as usize {
+                arrangement[place] = vertices[place] + 1;
+            }
+            let verdict =
+                Verdict::Smaller { row: row as u32 + 1, column: column as u32 + 1, steps };
+            Judgement { verdict, arrangement, literals }
+        }
+    }
+}

@@ -1,0 +1,112 @@
+//! The plain judge, the fast one and the C baseline agree.
+
+use oracle::arrangement::{permitted, relabel};
+use oracle::baseline::{self, Ending};
+use oracle::graph::Graph;
+use oracle::judge::{judge, well_formed};
+use oracle::judge_plain::judge_plain;
+use oracle::pairs::pairs;
+use oracle::random::Random;
+use oracle::samples;
+use oracle::verdict::Verdict;
+
+const UNTOUCHED: i32 = 7777;
+
+/// Compares all three on one graph and budget, and the plain one's whole buffer.
+fn agree(graph: &Graph, budget: u32) {
+    let mut fast = [UNTOUCHED; 20];
+    let mut plain = [UNTOUCHED; 20];
+    let judgement = judge(graph, budget, &mut fast);
+    assert_eq!(judgement, judge_plain(graph, budget, &mut plain), "{graph:?} budget {budget}");
+    assert_eq!(fast, plain, "{graph:?}");
+    same_as_baseline(graph, budget);
+}
+
+fn same_as_baseline(graph: &Graph, budget: u32) -> u32 {
+    let judgement = judge(graph, budget, &mut [0; 496]);
+    let (ending, steps) = baseline::search(graph, budget);
+    assert_eq!((Some(ending), steps), (Ending::of(&judgement.verdict), judgement.steps()));
+    steps
+}
+
+/// The budgets around the steps needed, with 0, 1 and the largest.
+fn agree_on_budgets(graph: &Graph) {
+    let steps = judge(graph, u32::MAX, &mut [0; 496]).steps();
+    for budget in [0, 1, steps - 1, steps, steps + 1, u32::MAX] {
+        agree(graph, budget);
+    }
+}
+
+#[test]
+fn on_every_graph_up_to_order_4() {
+    for order in 1..=4 {
+        samples::every_graph(order).for_each(|graph| agree_on_budgets(&graph));
+    }
+}
+
+#[test]
+fn on_random_graphs_up_to_order_6() {
+    let mut random = Random::new(3);
+    for round in 0..1_000 {
+        let graph = samples::graph(&mut random, 5 + round % 2);
+        agree_on_budgets(&graph);
+        agree_on_budgets(&samples::settled(graph, u32::MAX));
+    }
+}
+
+#[test]
+fn fast_and_baseline_on_every_order() {
+    let mut random = Random::new(4);
+    for round in 0..40_000 {
+        let graph = samples::graph(&mut random, round % 32 + 1);
+        let steps = same_as_baseline(&graph, 2_000);
+        for budget in [0, 1, steps.saturating_sub(1), steps] {
+            same_as_baseline(&graph, budget);
+        }
+        same_as_baseline(&samples::settled(graph, 500), 5_000);
+    }
+}
+
+/// On large orders a certificate is permitted, makes full drawings earlier at
+/// its standing pair, and its literals are false, rising and single.
+#[test]
+fn certificates_of_every_order_are_sound() {
+    let mut random = Random::new(5);
+    for round in 0..20_000 {
+        let graph = samples::graph(&mut random, round % 32 + 1);
+        let mut literals = [UNTOUCHED; 496];
+        let judgement = judge(&graph, 5_000, &mut literals);
+        let Verdict::Smaller { row, column, .. } = judgement.verdict else {
+            assert_eq!(literals, [UNTOUCHED; 496]);
+            continue;
+        };
+        assert!(permitted(&graph, &judgement.arrangement));
+        let copy = relabel(&graph, &judgement.arrangement).unwrap();
+        assert_eq!((graph.at(row, column), copy.at(row, column)), (1, 0));
+        if graph.fully_drawn() {
+            assert!(copy.compare(&graph).is_lt());
+        }
+        let clause = &literals[..judgement.literals];
+        assert!(clause.is_sorted_by(|a, b| a.abs() < b.abs()));
+        let all: Vec<_> = pairs(graph.order).collect();
+        for literal in clause {
+            let (i, j) = all[literal.unsigned_abs() as usize - 1];
+            assert_eq!(graph.at(i, j), u32::from(*literal < 0));
+        }
+        assert!(literals[judgement.literals..].iter().all(|&literal| literal == UNTOUCHED));
+    }
+}
+
+#[test]
+fn well_formed_in_words_and_with_masks() {
+    let mut random = Random::new(6);
+    for round in 0..100_000 {
+        let graph = samples::graph(&mut random, round % 32 + 1);
+        assert!(well_formed(&graph) && graph.well_formed());
+        let mut damaged = graph;
+        for _ in 0..random.from(1, 2) {
+            damaged = samples::damaged(&mut random, damaged);
+        }
+        assert_eq!(well_formed(&damaged), damaged.well_formed(), "{damaged:?}");
+    }
+}

@@ -1,0 +1,238 @@
+//! The proved library against the oracle: equal answers, and no byte touched
+//! that the rules don't name.
+//!
+//! CALLS sets how many random calls are made; a million without it.
+#![cfg(feature = "library")]
+
+use std::env;
+
+use oracle::graph::Graph;
+use oracle::judge::judge;
+use oracle::library::{judge_record, judge_rows, packed};
+use oracle::pairs::pair_count;
+use oracle::random::Random;
+use oracle::record::{read, record};
+use oracle::samples;
+use oracle::verdict::{Judgement, Verdict};
+
+fn calls() -> u32 {
+    env::var("CALLS").map_or(1_000_000, |text| text.parse().expect("CALLS is a number"))
+}
+
+/// A lent buffer inside a larger one, whose contents are known before the call.
+struct Lent<T> {
+    all: Vec<T>,
+    before: Vec<T>,
+    start: usize,
+    length: usize,
+}
+
+impl<T: Copy + PartialEq + std::fmt::Debug> Lent<T> {
+    /// A buffer of this length with guards around it, at any alignment.
+    fn new(random: &mut Random, length: usize, mut fill: impl FnMut(&mut Random) -> T) -> Lent<T> {
+        let start = random.from(32, 40) as usize;
+        let all: Vec<T> = (0..start + length + 40).map(|_| fill(random)).collect();
+        Lent { before: all.clone(), all, start, length }
+    }
+
+    fn holding(random: &mut Random, contents: &[T], fill: impl FnMut(&mut Random) -> T) -> Lent<T> {
+        let mut lent = Lent::new(random, contents.len(), fill);
+        lent.lend().copy_from_slice(contents);
+        lent.before.clone_from(&lent.all);
+        lent
+    }
+
+    fn lend(&mut self) -> &mut [T] {
+        &mut self.all[self.start..self.start + self.length]
+    }
+
+    /// Checks that only these elements were written, at the start.
+    fn written(&mut self, expected: &[T]) {
+        self.before[self.start..self.start + expected.len()].copy_from_slice(expected);
+        assert_eq!(self.all, self.before);
+    }
+}
+
+/// The buffers of one call, and the oracle's answer to compare with.
+struct Call {
+    budget: u32,
+    literals: Lent<i32>,
+    arrangement: Lent<u8>,
+}
+
+impl Call {
+    fn new(random: &mut Random, budget: u32, literals: usize) -> Call {
+        Call {
+            budget,
+            literals: Lent::new(random, literals, |random| random.word() as i32),
+            arrangement: Lent::new(random, 32, Random::byte),
+        }
+    }
+
+    /// What the oracle answers, with the literals it writes.
+    fn expected(&self, graph: &Graph) -> (Judgement, Vec<i32>) {
+        let mut literals = vec![0; self.literals.length];
+        let judgement = judge(graph, self.budget, &mut literals);
+        literals.truncate(judgement.literals);
+        (judgement, literals)
+    }
+
+    fn check(&mut self, answer: u64, judgement: &Judgement, literals: &[i32]) {
+        assert_eq!(answer, packed(judgement));
+        self.literals.written(literals);
+        match judgement.verdict {
+            Verdict::Smaller { .. } => self.arrangement.written(&judgement.arrangement),
+            _ => self.arrangement.written(&[]),
+        }
+    }
+
+    /// Calls with rows.
+    fn rows(mut self, graph: &Graph) {
+        let arrangement = self.arrangement.lend().try_into().unwrap();
+        let answer = judge_rows(graph, self.budget, self.literals.lend(), arrangement);
+        let (judgement, literals) = self.expected(graph);
+        self.check(answer, &judgement, &literals);
+    }
+
+    /// Calls with the bytes of a record, or with bytes that are none.
+    fn bytes(mut self, random: &mut Random, bytes: &[u8]) {
+        let mut lent = Lent::holding(random, bytes, Random::byte);
+        let arrangement = self.arrangement.lend().try_into().unwrap();
+        let answer = judge_record(lent.lend(), self.budget, self.literals.lend(), arrangement);
+        lent.written(&[]);
+        let reading = read(bytes);
+        let (judgement, literals) = match reading.refusal {
+            Some(refusal) => (Judgement::without(Verdict::Refused(refusal)), vec![]),
+            None => self.expected(&reading.graph),
+        };
+        self.check(answer, &judgement, &literals);
+    }
+}
+
+/// A budget of 0, 1, around the steps needed or the largest, as long as the
+/// search stays short.
+fn budget(random: &mut Random, graph: &Graph) -> u32 {
+    const SHORT: u32 = 3_000;
+    let judgement = judge(graph, SHORT, &mut [0; 496]);
+    match judgement.verdict {
+        Verdict::Cut { .. } => *random.pick(&[0, 1, SHORT - 1, SHORT]),
+        Verdict::Refused(_) => *random.pick(&[0, 1, u32::MAX]),
+        _ => {
+            let steps = judgement.steps();
+            *random.pick(&[0, 1, steps - 1, steps, steps, steps + 1, u32::MAX])
+        }
+    }
+}
+
+/// A literal buffer around the length that is needed, or the largest, or none.
+fn literals_length(random: &mut Random, order: u32) -> usize {
+    let needed = pair_count(order.clamp(1, 32)) as usize;
+    let around = [needed, needed, needed, needed + 1, needed.saturating_sub(1), 0, 495, 496, 600];
+    *random.pick(&around)
+}
+
+/// Small orders half of the time.
+fn order(random: &mut Random) -> u32 {
+    let most = *random.pick(&[6, 12, 32]);
+    random.from(1, most)
+}
+
+fn some_graph(random: &mut Random) -> Graph {
+    let order = order(random);
+    let graph = samples::graph(random, order);
+    if random.chance(30) { samples::settled(graph, 200) } else { graph }
+}
+
+#[test]
+fn every_graph_up_to_order_4() {
+    let mut random = Random::new(11);
+    for order in 1..=4 {
+        for graph in samples::every_graph(order) {
+            let needed = pair_count(order) as usize;
+            let steps = judge(&graph, u32::MAX, &mut [0; 6]).steps();
+            for budget in [0, 1, steps - 1, steps, steps + 1, u32::MAX] {
+                Call::new(&mut random, budget, needed).rows(&graph);
+                Call::new(&mut random, budget, needed).bytes(&mut random, &record(&graph));
+            }
+        }
+    }
+}
+
+#[test]
+fn random_rows() {
+    let mut random = Random::new(12);
+    for _ in 0..calls() / 2 {
+        let mut graph = some_graph(&mut random);
+        if random.chance(25) {
+            graph = samples::damaged(&mut random, graph);
+        }
+        let length = literals_length(&mut random, graph.order);
+        let budget = budget(&mut random, &graph);
+        Call::new(&mut random, budget, length).rows(&graph);
+    }
+}
+
+#[test]
+fn random_records() {
+    let mut random = Random::new(13);
+    for _ in 0..calls() / 2 {
+        let graph = some_graph(&mut random);
+        let mut bytes = record(&graph);
+        if random.chance(30) {
+            let tail = random.below(4) as usize;
+            bytes.extend(random.bytes(tail));
+        }
+        match random.below(8) {
+            0 => {
+                let at = random.below(bytes.len() as u32) as usize;
+                bytes[at] ^= 1 << random.below(8);
+            }
+            1 => bytes.truncate(random.below(bytes.len() as u32) as usize),
+            2 => {
+                let length = random.below(140) as usize;
+                bytes = random.bytes(length);
+            }
+            _ => {}
+        }
+        let graph = read(&bytes).graph;
+        let length = literals_length(&mut random, graph.order);
+        let budget = budget(&mut random, &graph);
+        Call::new(&mut random, budget, length).bytes(&mut random, &bytes);
+    }
+}
+
+#[test]
+fn records_cut_at_every_byte() {
+    let mut random = Random::new(14);
+    for order in 1..=32 {
+        let bytes = record(&samples::graph(&mut random, order));
+        for length in 0..=bytes.len() {
+            Call::new(&mut random, 100, 496).bytes(&mut random, &bytes[..length]);
+        }
+    }
+}
+
+#[test]
+fn every_buffer_length_of_every_order() {
+    let mut random = Random::new(15);
+    for order in 1..=32 {
+        let graph = samples::sprinkled(&mut random, order, 40, 20);
+        for length in 0..=500 {
+            Call::new(&mut random, 1_000, length).rows(&graph);
+        }
+    }
+}
+
+#[test]
+fn every_first_byte_with_every_short_length() {
+    let mut random = Random::new(16);
+    for first in 0..=255 {
+        for length in 0..140 {
+            let mut bytes = vec![0; length];
+            if let Some(byte) = bytes.first_mut() {
+                *byte = first;
+            }
+            Call::new(&mut random, 100, 496).bytes(&mut random, &bytes);
+        }
+    }
+}
