@@ -3,15 +3,17 @@ use Prim.Native.Nat.{ℕ, zero, suc, _+_, _-_, _≤_, _<_}
 use native.Mathlib.Nat.{eq-or-lt-of-le}
 use native.Mathlib.Omega.{arith}
 use mathlib.Core.Path.{_≡_, refl, sym, ap, ap₂, subst, subst₂, _∙_}
-use mathlib.Core.Logic.{inl, inr, _↔_, ⊎-elim, Iff·rfl, Iff·trans}
+use mathlib.Core.Logic.{inl, inr, _↔_, ⊎-elim, Iff·rfl, Iff·symm, Iff·trans}
 use mathlib.Core.List.{List, [], _∷_, _++_, map, List·Memᴰ, List·Memᴰ·head, List·Memᴰ·tail, List·Memᴰ·cases-cons, List·Memᴰ·not-nil, append-assoc}
 use Rattle.laws.specs.UpTo.{listUpTo}
 use Rattle.laws.specs.ListLaws.{map-append}
+use Rattle.walk.specs.Earlier.{LexLess}
+use Rattle.walk.proofs.Order.{earlier-lexicographic}
 use Rattle.graph.specs.declared.Graph.{Graph}
 use Rattle.graph.specs.Graph.{entry}
 use Rattle.graph.specs.WellFormed.{WellFormed, FullyDrawn}
 use Rattle.graph.specs.Pairs.{Pair, pair, alongRow, fromRow, pairs, entryAt}
-use Rattle.graph.specs.Order.{Earlier, EarlierGraph, rowsJoined, matrixWord, LexLess}
+use Rattle.graph.specs.Order.{EarlierGraph, rowsJoined, matrixWord}
 use Rattle.graph.proofs.PairLaws.{Mirrored, entryOf, alongRow-append, fromRow-split, along-given, along-has}
 
 module _ (x y : Pair → ℕ) where
@@ -22,43 +24,6 @@ module _ (x y : Pair → ℕ) where
   -- x and y agree on each of ks
   Agree : List Pair → Type 0
   Agree ks = (k : Pair) → List·Memᴰ k ks → x k ≡ y k
-
-  -- the first place where the words differ is the first pair where x and y differ
-  pub less-earlier : ((k : Pair) → y k ≤ 1) → (ks : List Pair) → Less ks → Earlier ks x y
-  unfolding LexLess
-  less-earlier bits [] h = absurd h
-  less-earlier bits (k ∷ ks) (inl l) =
-      record {
-        before = [];
-        here = k;
-        after = ks;
-        split = refl;
-        agree = λ j m. absurd (List·Memᴰ·not-nil m);
-        is-zero = omega (arith, bits k);
-        is-one = omega (arith, bits k);
-      }
-  less-earlier bits (k ∷ ks) (inr h) =
-      let e = less-earlier bits ks (h .1) in
-      record {
-        before = k ∷ e .before;
-        here = e .here;
-        after = e .after;
-        split = ap {B = List Pair} (λ r. k ∷ r) (e .split);
-        agree = λ j m. ⊎-elim (λ (p : j ≡ k). ap x p ∙ h .0 ∙ sym (ap y p)) (λ (m′ : List·Memᴰ j (e .before)). e .agree j m′) (List·Memᴰ·cases-cons m);
-        is-zero = e .is-zero;
-        is-one = e .is-one;
-      }
-
-  -- x is the smaller word where it is 0 against 1 after a run on which the two agree
-  split-less : (before after : List Pair) (k : Pair) → Agree before → x k ≡ 0 → y k ≡ 1 → Less (before ++ k ∷ after)
-  unfolding LexLess Agree
-  split-less [] after k a z o = inl (omega arith)
-  split-less (j ∷ before) after k a z o = inr (a j (List·Memᴰ·head refl), split-less before after k (λ i m. a i (List·Memᴰ·tail m)) z o)
-
-  -- and the other way round
-  pub earlier-less : (ks : List Pair) → Earlier ks x y → Less ks
-  unfolding Agree
-  earlier-less ks e = subst Less (sym (e .split)) (split-less (e .before) (e .after) (e .here) (e .agree) (e .is-zero) (e .is-one))
 
   -- pairs on which x and y agree change nothing
   skip : (cs ks : List Pair) → Agree cs → Less (cs ++ ks) ↔ Less ks
@@ -174,7 +139,6 @@ unfolding matrixWord
 same-order g h wg wh fg fh e =
     Iff·trans
     (subst (λ (n : ℕ). LexLess (rowsJoined (entry g) (g .order) 1 (g .order)) (rowsJoined (entry h) n 1 n) ↔ Less (entryAt g) (entryAt h) (pairs (g .order))) e
-    (first-above (entry g) (entry h) (mirrored-entries g wg) (mirrored-entries h wh) (g .order))) (
-      less-earlier (entryAt g) (entryAt h) (λ k. fh .known (k .row) (k .column)) (pairs (g .order)),
-      earlier-less (entryAt g) (entryAt h) (pairs (g .order)),
-    )
+    (first-above (entry g) (entry h) (mirrored-entries g wg) (mirrored-entries h wh) (g .order)))
+    (Iff·symm
+    (earlier-lexicographic (entryAt g) (entryAt h) (pairs (g .order)) (λ k m. fg .known (k .row) (k .column)) (λ k m. fh .known (k .row) (k .column))))

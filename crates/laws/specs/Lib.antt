@@ -11,3 +11,4 @@ pub mod Pigeonhole
 pub mod SumLaws
 pub mod Each
 pub mod Chosen
+pub mod Masks

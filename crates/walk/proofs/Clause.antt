@@ -12,7 +12,7 @@ use Rattle.laws.specs.Test.{either}
 use Rattle.laws.specs.Each.{Each}
 use Rattle.walk.specs.Walk.{Tells}
 use Rattle.walk.specs.Clause.{Literal, absent, present, pairIn, signed, Numbered, sameLiteral, among, numbered, clauseAfter, clause, Consistent, Written}
-use Rattle.walk.proofs.Test.{either-second}
+use Rattle.laws.specs.TestLaws.{either-second}
 
 module _ {P : Type 0} {same : P → P → Bool} (tells : Tells same) where
   literal-tells : Tells (sameLiteral same)

@@ -1,4 +1,3 @@
-pub mod Test
 pub mod Step
 pub mod Prefix
 pub mod Standing

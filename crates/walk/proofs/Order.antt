@@ -12,7 +12,7 @@ use borrow.Author.Tests.{eqb-true, eq-eqb}
 use Rattle.laws.specs.Test.{both, either}
 use Rattle.laws.specs.Each.{Each, each-none, each-cons, each-first, each-rest}
 use Rattle.walk.specs.Earlier.{Earlier, isEarlier, LexLess}
-use Rattle.walk.proofs.Test.{either-second}
+use Rattle.laws.specs.TestLaws.{either-second}
 
 module _ {P : Type 0} (x y : P → ℕ) where
   -- ---- one pair more

@@ -1,0 +1,75 @@
+-- What the code's masks come to.
+use Prim.Native.Nat.{ℕ, suc, _+_, _-_, _*_, _/_, _%_, _^_, _≤_, _<_}
+use native.Mathlib.Nat.{one-mul, pow-suc, lt-of-lt-of-le, mul-le-mul-right}
+use native.Mathlib.Numerals.{add-one}
+use native.Mathlib.Omega.{arith}
+use mathlib.Core.Path.{_≡_, sym, ap, ap₂, _∙_}
+use mathlib.Core.List.{List}
+use lib.Bits.{bitAnd, and-le-l}
+use lib.Dec.{eqb}
+use lib.ListN.{set}
+use lib.Pow.{pow-mono}
+use borrow.Author.Tests.{eq-eqb, ne-eqb}
+use Rattle.laws.specs.Test.{pick}
+use Rattle.laws.specs.UpTo.{wordUpTo, sumUpTo}
+use Rattle.laws.specs.UpToLaws.{word-same}
+use Rattle.laws.specs.Loops.{word-turns, word-done, sum-turns}
+use Rattle.graph.specs.Graph.{blockOf, startAt, placed}
+use Rattle.graph.specs.Arrangement.{at}
+use Rattle.graph.proofs.CodeTests.{shifted}
+use Rattle.graph.proofs.CodePlaces.{placed-turns}
+use Rattle.graph.proofs.Placed.{placed-at}
+use Rattle.search.specs.Masks.{sameBlock, blockMask}
+
+pub power-is : (k : ℕ) → k < 32 → 1 * 2 ^ k % 2 ^ 32 ≡ 2 ^ k
+power-is k h = shifted 1 k (omega arith) h ∙ one-mul (2 ^ k)
+
+pub part-within : (mask used : ℕ) → bitAnd mask used ≤ mask
+part-within mask used = and-le-l mask used
+
+-- ---- blocks
+
+pub start-is : (starts i : ℕ) → starts / 2 ^ i % 2 ≡ startAt starts (i + 1)
+start-is starts i = let e : i + 1 - 1 ≡ i = omega arith in rw e
+
+pub block-more : (starts i b s : ℕ) → b ≡ blockOf starts i → s ≡ startAt starts (i + 1) → b + s ≡ blockOf starts (i + 1)
+block-more starts i b s h e = sum-turns (startAt starts) i b s h e
+
+pub numbers-more : (starts i b s : ℕ) (out : List ℕ) → out ≡ placed (blockOf starts) i → b ≡ blockOf starts i → s ≡ startAt starts (i + 1) → i < 32
+    → set out i (b + s) ≡ placed (blockOf starts) (i + 1)
+numbers-more starts i b s out h e f l = placed-turns (blockOf starts) i (b + s) 32 out h (block-more starts i b s e f) l (omega arith)
+
+pub same-held : (numbers : List ℕ) (i v : ℕ) → at numbers v ≡ at numbers i → 1 ≡ sameBlock (at numbers) i v
+unfolding sameBlock pick
+same-held numbers i v e = rw (eq-eqb (at numbers v) (at numbers i) e)
+
+pub same-failed : (numbers : List ℕ) (i v : ℕ) → (at numbers v ≡ at numbers i → ⊥) → 0 ≡ sameBlock (at numbers) i v
+unfolding sameBlock pick
+same-failed numbers i v e = rw (ne-eqb (at numbers v) (at numbers i) e)
+
+-- ---- a word of bits that are 0 or 1
+
+pub mask-more : (f : ℕ → ℕ) (j w b r : ℕ) → w ≡ wordUpTo f j → b ≡ f (j + 1) → r ≡ b * 2 ^ j → w + r ≡ wordUpTo f (j + 1)
+mask-more f j w b r h e k = word-turns f j w r h (k ∙ ap (λ (x : ℕ). x * 2 ^ j) e)
+
+pub mask-grows : (w b r j : ℕ) → w < 2 ^ j → b ≤ 1 → r ≡ b * 2 ^ j → w + r < 2 ^ (j + 1)
+mask-grows w b r j h l e =
+    let m : b * 2 ^ j ≤ 1 * 2 ^ j = mul-le-mul-right (2 ^ j) l in
+    rw (add-one j) (omega (arith, pow-suc 2 j, one-mul (2 ^ j)))
+
+pub mask-fits : (w b r j n : ℕ) → w < 2 ^ j → b ≤ 1 → r ≡ b * 2 ^ j → j < n → n ≤ 32 → w + r < 2 ^ 32
+mask-fits w b r j n h l e k m = lt-of-lt-of-le (mask-grows w b r j h l e) (pow-mono {j = 32} (omega arith))
+
+pub mask-done : (block : ℕ → ℕ) (i m n w : ℕ) → w ≡ wordUpTo (sameBlock block i) m → m ≤ n → n ≤ m → w ≡ blockMask block n i
+unfolding blockMask
+mask-done block i m n w h a b = word-done (sameBlock block i) m n w h a b
+
+-- the block numbers as they are held give the same mask
+pub held-mask : (starts n i v : ℕ) (numbers : List ℕ) → numbers ≡ placed (blockOf starts) 32 → v ≡ blockMask (at numbers) n (i + 1) → i < n → n ≤ 32
+    → v ≡ blockMask (blockOf starts) n (i + 1)
+unfolding blockMask sameBlock
+held-mask starts n i v numbers e h l k =
+    let same : (u : ℕ) → 1 ≤ u → u ≤ 32 → at numbers u ≡ blockOf starts u = λ u a b. rw e (placed-at (blockOf starts) 32 u a b) in
+    h
+    ∙ word-same (sameBlock (at numbers) (i + 1)) (sameBlock (blockOf starts) (i + 1)) n
+    (λ u a b. ap₂ (λ (x y : ℕ). pick (eqb x y) 1 0) (same u a (omega arith)) (same (i + 1) (omega arith) (omega arith)))

@@ -1,0 +1,12 @@
+pub mod CodeTurns
+pub mod CodeMasks
+pub mod MaskLaws
+pub mod Arrangements
+pub mod Judgements
+pub mod Certificates
+pub mod Exact
+pub mod CodeLast
+pub mod LastJudged
+pub mod First
+pub mod Count
+pub mod Buffer

@@ -1,0 +1,49 @@
+-- What the code computes on rows and paths, by numbers: 0 goes on or open, 1 loses or lost, 2 wins or won.
+use Prim.Native.Nat.{ℕ, _-_, _≤_}
+use mathlib.Core.List.{List, [], _∷_}
+use lib.ListN.{take}
+use lib.Dec.{eqb, ltb}
+use Rattle.laws.specs.Test.{pick}
+use Rattle.walk.specs.Walk.{Turn, wins, goes-on, loses, step}
+use Rattle.beginnings.specs.Search.{Found, cut, none, first}
+use Rattle.graph.specs.declared.Graph.{Graph}
+use Rattle.graph.specs.Graph.{entryIn}
+use Rattle.graph.specs.Arrangement.{at}
+use Rattle.graph.specs.Pairs.{Pair, pair, fromRow}
+use Rattle.search.specs.declared.explore.Explored.{Explored}
+use Rattle.search.specs.Judging.{samePair, image}
+
+unfoldable pub codeOf : Turn → ℕ
+codeOf goes-on = 0
+codeOf loses = 1
+codeOf wins = 2
+
+-- what pair k does under the path p
+unfoldable pub turnAt : List ℕ → List ℕ → List ℕ → Pair → ℕ
+turnAt edges unknowns p k =
+    codeOf (step (entryIn edges unknowns (k .row) (k .column)) (entryIn edges unknowns (at p (k .row)) (at p (k .column))) (samePair (image p k) k))
+
+-- the first of the pairs that does not go on, or 0
+unfoldable pub walkCode : (Pair → ℕ) → List Pair → ℕ
+walkCode t [] = 0
+walkCode t (k ∷ ks) =
+    let rest = walkCode t ks in
+    pick (eqb (t k) 0) rest (t k)
+
+-- how the first k places of p are judged, by the pairs that come with place k: none at place 1, (1, k), and at place n all later ones
+unfoldable pub lastCode : List ℕ → List ℕ → List ℕ → ℕ → ℕ → ℕ
+lastCode edges unknowns p n k =
+    pick (ltb k 2) 0 (walkCode (turnAt edges unknowns p) (pair 1 k ∷ pick (ltb k n) [] (fromRow 2 (n - 2))))
+
+-- each of the first n places of p holds a number of 1..n
+pub record Within (n : ℕ) (p : List ℕ) : Type 0 where
+  pub low : (i : ℕ) → 1 ≤ i → i ≤ n → 1 ≤ at p i
+  pub high : (i : ℕ) → 1 ≤ i → i ≤ n → at p i ≤ n
+
+-- the graph with these rows
+abbrev pub graphIn : ℕ → List ℕ → List ℕ → ℕ → Graph
+graphIn n edges unknowns starts = record { order = n; edges = edges; unknowns = unknowns; starts = starts }
+
+-- what an ended search has found, where p is its path
+unfoldable pub foundBy : Explored → List ℕ → Found
+foundBy e p = pick (eqb (e .kind) 0) (none (e .steps)) (pick (eqb (e .kind) 1) (first (take (e .depth) p) (e .steps)) cut)

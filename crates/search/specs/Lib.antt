@@ -1,0 +1,5 @@
+pub mod Judging
+pub mod Answer
+pub mod Worked
+pub mod Code
+pub mod Masks
