@@ -1,4 +1,6 @@
 pub mod CodeTurns
+pub mod CodeClause
+pub mod Writing
 pub mod CodeMasks
 pub mod MaskLaws
 pub mod Arrangements

@@ -1,5 +1,6 @@
 // Judging a partially drawn graph: does some permitted renumbering make it smaller in dictionary order?
 
+mod clause;
 mod explore;
 mod masks;
 mod turns;
