@@ -1,16 +1,13 @@
--- What the code that writes a clause comes to, one law for each answer and each turn of its loop.
+-- What the code that writes a clause comes to: numbers of pairs, the kind of a pair, one literal in the buffer.
 use Prim.Native.Nat.{ℕ, zero, suc, _+_, _-_, _*_, _/_, _^_, _≤_, _<_}
 use native.Mathlib.Nat.{mul-le-mul}
 use native.Mathlib.Omega.{arith}
-use mathlib.Core.Path.{_≡_, refl, sym, ap, _∙_}
+use mathlib.Core.Path.{_≡_, sym, _∙_}
 use mathlib.Core.Logic.{_≢_}
-use mathlib.Core.Bool.{Bool, true, false}
 use mathlib.Core.List.{List, [], _∷_, _++_, append-assoc, append-nil}
 use lib.IntN.{ℤ, pos, negℤ, _-ℤ_, +ℤ-idl}
 use lib.ListN.{length, set, take, drop, take-append-drop}
 use lib.Seq.{set-split}
-use lib.Dec.{leb, eqb}
-use lib.Signed.{mag}
 use mir.Syntax.{w32}
 use mir.Val.{SFits, toZ, ofZ}
 use mir.Facts.{toZ-pos, toZ-ofZ}
@@ -19,13 +16,13 @@ use Rattle.laws.specs.Test.{pick}
 use Rattle.walk.specs.Clause.{numbered}
 use Rattle.graph.specs.Graph.{entryIn}
 use Rattle.graph.specs.Arrangement.{at}
-use Rattle.graph.specs.Pairs.{Pair, pair, alongRow, fromRow, pairs, pairCount, number}
-use Rattle.graph.proofs.PairLaws.{pairCount-mono, number-first, number-along, number-next-row, number-high, fromRow-split, pairs-row-one}
+use Rattle.graph.specs.Pairs.{pair, number}
 use Rattle.search.specs.Judging.{pairOfTwo, image}
 use Rattle.search.specs.Clauses.{kindBy, kindAt, writtenFor, Put}
 
 -- ---- numbers of pairs
 
+-- a number of at most 32 vertices is computed within a word
 module _ (n i j : ℕ) (high : n ≤ 32) (l : i ≤ j) (h : j ≤ n) where
   product-small : (i - 1) * (2 * n - i) ≤ 32 * 64
   product-small =
@@ -39,6 +36,7 @@ module _ (n i j : ℕ) (high : n ≤ 32) (l : i ≤ j) (h : j ≤ n) where
   pub number-fits : (i - 1) * (2 * n - i) / 2 + (j - i) < 2 ^ 32
   number-fits = omega (arith, product-small)
 
+-- the number of the pair of u and v, the smaller one first
 module _ (n u v r : ℕ) where
   pub number-rising : u < v → r ≡ number n u v → r ≡ number n (pairOfTwo u v .row) (pairOfTwo u v .column)
   unfolding pairOfTwo pick
@@ -50,6 +48,7 @@ module _ (n u v r : ℕ) where
 
 -- ---- the kind of a pair
 
+-- by the tests in their order
 module _ (a m source s : ℕ) where
   pub kind-own : source ≡ m → 0 ≡ kindBy a m source s
   unfolding kindBy pick
@@ -77,6 +76,7 @@ module _ (a m source s : ℕ) where
       unfolding kindBy pick
       kind-unknown e = rw (ne-eqb source m moved, ne-eqb a 1 other, ne-eqb a 0 e)
 
+-- from the entry, the number and the source of (i, j)
 pub kind-is : (e w q : List ℕ) (n s i j m a u v source r : ℕ) → m ≡ number n i j → a ≡ entryIn e w i j → u ≡ at q i → v ≡ at q j
     → source ≡ number n (pairOfTwo u v .row) (pairOfTwo u v .column) → r ≡ kindBy a m source s → r ≡ kindAt e w q n s (pair i j)
 unfolding kindAt image
@@ -84,6 +84,7 @@ kind-is e w q n s i j m a u v source r pm pa pu pv ps h = h ∙ rw (pa, pm, ps, 
 
 -- ---- one literal
 
+-- a pair's number and its negative are what is stored for them
 module _ (m : ℕ) (small : m ≤ 496) where
   as-signed : toZ w32 m ≡ pos m
   as-signed = toZ-pos w32 (omega arith)
@@ -108,6 +109,7 @@ module _ (buffer : List ℤ) (count m kind : ℕ) where
       let s : count + 1 ≡ suc count = omega arith in
       rw s (set-split buffer count z h ∙ sym (append-assoc (take count buffer) (z ∷ []) (drop (suc count) buffer)))
 
+  -- kind 1 puts -m there
   pub puts-not : kind ≡ 1 → count < length buffer → m ≤ 496 → Put buffer count m kind (set buffer count (toZ w32 (ofZ w32 (pos 0 -ℤ toZ w32 m)))) (count + 1)
   unfolding writtenFor numbered
   puts-not e h small =
@@ -115,12 +117,14 @@ module _ (buffer : List ℤ) (count m kind : ℕ) where
       record { counted = rw one; written = rw (stored m small, one) (set-there (negℤ (pos m)) h) }
 
   module _ (other : kind ≢ 1) where
+    -- kind 2 puts m
     pub puts-pair : kind ≡ 2 → count < length buffer → m ≤ 496 → Put buffer count m kind (set buffer count (toZ w32 m)) (count + 1)
     unfolding writtenFor numbered
     puts-pair e h small =
         let one : writtenFor kind m ≡ pos m ∷ [] = rw (ne-eqb kind 1 other, eq-eqb kind 2 e) in
         record { counted = rw one; written = rw (as-signed m small, one) (set-there (pos m) h) }
 
+    -- any other nothing
     pub puts-none : kind ≢ 2 → Put buffer count m kind buffer count
     unfolding writtenFor numbered
     puts-none e =

@@ -19,3 +19,4 @@ pub mod Sound
 pub mod Literals
 pub mod Smallest
 pub mod Survival
+pub mod ClauseByKinds
