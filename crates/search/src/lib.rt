@@ -19,7 +19,8 @@ mod explore;
 mod masks;
 mod turns;
 
-use certificate::{complete, standing};
+use certificate::complete;
+use certificate::standing;
 use clause::write_clause;
 use explore::explore;
 use graph::Graph;
@@ -75,7 +76,16 @@ fn certify(graph: Graph, start: [u8; 32], depth: u32, steps: u32, literals: &mut
     let at = standing(&graph.edges, &graph.unknowns, &path, n);
     let row = at.row;
     let column = at.column;
-    let count = write_clause(&graph.edges, &graph.unknowns, &path, n, starts, row, column, literals);
+    let count = write_clause(
+        &graph.edges,
+        &graph.unknowns,
+        &path,
+        n,
+        starts,
+        row,
+        column,
+        literals,
+    );
     Judged {
         verdict: Verdict::Smaller { row, column, steps },
         arrangement: path,
@@ -89,7 +99,14 @@ fn judge_formed(graph: Graph, budget: u32, literals: &mut [i32]) -> Judged
     ensures { λ r. ⌜ (r ≡ answerFor graph budget (found graph budget)) × (now (literals .exit) ≡ atStart (r .verdict) (clauseOf graph (r .arrangement)) (now (literals .entry))) ⌝ }
 {
     let mut path = [0u8; 32];
-    let end = explore(graph.order, &graph.edges, &graph.unknowns, graph.starts, budget, &mut path);
+    let end = explore(
+        graph.order,
+        &graph.edges,
+        &graph.unknowns,
+        graph.starts,
+        budget,
+        &mut path,
+    );
     let kind = end.kind;
     if kind == 1 {
         return certify(graph, path, end.depth, end.steps, literals);

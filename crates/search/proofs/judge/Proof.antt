@@ -16,7 +16,7 @@ same-length : tie.Need-same-length
 same-length c = search needs
 
 returns : tie.Need-returns
-returns c = 
+returns c =
     let fits = c .before .before .before in
     let formed = fits .before .before in
     answers-judged _ _ _ _ (formed .before .is-well-formed .ensures) _ (fits .before .has-room .ensures) (formed .if1 .taken) _ _ (fits .if2 .taken) (c .before .judge-formed .ensures .0) (c .before .judge-formed .ensures .1)
@@ -25,7 +25,7 @@ bare-requires : tie.Need-bare-requires
 bare-requires c κs = search needs
 
 returns-2 : tie.Need-returns-2
-returns-2 c = 
+returns-2 c =
     let cramped = c .before in
     let formed = cramped .before .before in
     answers-cramped _ _ _ _ (formed .before .is-well-formed .ensures) _ (cramped .before .has-room .ensures) (formed .if1 .taken) _ (cramped .if2 .left) (c .bare .ensures)
@@ -34,7 +34,7 @@ bare-requires-2 : tie.Need-bare-requires-2
 bare-requires-2 c κs = search needs
 
 returns-3 : tie.Need-returns-3
-returns-3 c = 
+returns-3 c =
     let malformed = c .before in
     answers-malformed _ _ _ _ (malformed .before .is-well-formed .ensures) _ (malformed .if1 .left) (c .bare2 .ensures)
 

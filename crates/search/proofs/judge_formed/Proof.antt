@@ -8,7 +8,7 @@ explore-requires : tie.Need-explore-requires
 explore-requires c κs = search needs
 
 certify-requires : tie.Need-certify-requires
-certify-requires c κs = 
+certify-requires c κs =
     let end = c .before .before .explore in
     (search needs, search needs, search needs, found-begins _ _ (end .result) _ (end .ensures .0) (c .before .if1 .taken), found-won _ _ (end .result) _ (end .ensures .0) (c .before .if1 .taken), search still-zeros)
 
@@ -22,7 +22,7 @@ bare-requires : tie.Need-bare-requires
 bare-requires c κs = search needs
 
 returns-2 : tie.Need-returns-2
-returns-2 c = 
+returns-2 c =
     let end = c .before .before .before .explore in
     (answers-none _ _ (end .result) _ (end .ensures .0) _ (c .before .if2 .taken) (c .bare .ensures), search none-buffer)
 
@@ -30,7 +30,7 @@ bare-requires-2 : tie.Need-bare-requires-2
 bare-requires-2 c κs = search needs
 
 returns-3 : tie.Need-returns-3
-returns-3 c = 
+returns-3 c =
     let end = c .before .before .before .explore in
     (answers-cut _ _ (end .result) _ (end .ensures .0) _ (c .before .if2 .left) (c .before .before .if1 .left) (c .bare2 .ensures), search cut-buffer)
 
