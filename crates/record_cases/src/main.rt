@@ -77,7 +77,7 @@ fn show_write(name: &[u8], graph: Graph, room: usize) {
     text(b"\n");
 }
 
-fn main() {
+fn reads() {
     show_read(b"04", b"\x04");
     show_read(b"09 00", b"\x09\x00");
     show_read(b"08 80", b"\x08\x80");
@@ -88,13 +88,18 @@ fn main() {
     show_read(b"nothing", b"");
     show_read(b"00", b"\x00");
     show_read(b"84", b"\x84");
+}
+
+// Order 32: with a byte to spare, with just enough, and with one too few.
+fn longest() {
     let mut whole = [0u8; 130];
     whole[0] = 0x80;
     show_read(b"80 and 129 zeros", &whole);
     show_read(b"80 and 128 zeros", &whole[..129]);
     show_read(b"80 and 127 zeros", &whole[..128]);
+}
 
-    let two = b"\x0c\x40";
+fn fields(two: &[u8]) {
     show_field(two, 0, 6);
     show_field(two, 9, 1);
     show_field(two, 8, 2);
@@ -109,14 +114,18 @@ fn main() {
     show_field(two, 0, 7);
     show_field(two, 16, 0);
     show_field(b"", 0, 1);
+}
 
+fn sizes() {
     show_size(0);
     show_size(1);
     show_size(2);
     show_size(3);
     show_size(32);
     show_size(33);
+}
 
+fn writes() {
     let edge = record::read(b"\x08\x80").graph;
     show_write(b"08 80", edge, 1);
     show_write(b"08 80", edge, 2);
@@ -126,4 +135,12 @@ fn main() {
     show_write(b"04", one, 1);
     let none = record::read(b"").graph;
     show_write(b"order 0", none, 4);
+}
+
+fn main() {
+    reads();
+    longest();
+    fields(b"\x0c\x40");
+    sizes();
+    writes();
 }
