@@ -1,7 +1,7 @@
 -- One number that holds an answer: bits 0..31 the steps or a place, 32..37 the row, 38..43 the column, 44..52 the number of
 -- literals, 56..63 the code.
-use Prim.Native.Nat.{ℕ, _+_, _*_, _/_, _%_, _^_, min}
-use lib.Dec.{eqb, ltb}
+use Prim.Native.Nat.{ℕ, _+_, _*_, _/_, _%_, _^_}
+use lib.Dec.{eqb, leb, ltb}
 use Rattle.laws.specs.Test.{pick}
 use Rattle.record.specs.declared.Extent.{Extent}
 use Rattle.record.specs.declared.Written.{Written}
@@ -37,15 +37,11 @@ codeIn x = bitsFrom x 56 8
 
 -- a place as it is told: one above 4,294,967,295 is told as that number
 unfoldable pub placeTold : ℕ → ℕ
-placeTold place = min place 4294967295
+placeTold place = pick (leb place 4294967295) place 4294967295
 
 -- a refusal with its place
 unfoldable pub refusal : ℕ → ℕ → ℕ
 refusal number place = fields (placeTold place) 0 0 0 (128 + number)
-
--- a number of bytes
-unfoldable pub bytesTold : ℕ → ℕ
-bytesTold count = fields count 0 0 0 0
 
 -- what stands in bits 0..31: the steps, and for a refusal the place
 unfoldable pub lowTold : Told → ℕ
@@ -55,10 +51,14 @@ lowTold t = pick (ltb (t .code) 128) (t .steps) (placeTold (t .place))
 unfoldable pub packed : Judged → ℕ
 packed a = let t = told (a .verdict) in fields (lowTold t) (t .row) (t .column) (a .literals) (t .code)
 
+-- a number of bytes, or the refusal where its number is not 0
+unfoldable pub counted : ℕ → ℕ → ℕ → ℕ
+counted number place count = pick (eqb number 0) (fields count 0 0 0 0) (refusal number place)
+
 -- how many bytes a record takes
-unfoldable pub packedExtent : Extent → ℕ
-packedExtent x = pick (eqb (x .refusal) 0) (bytesTold (x .bytes)) (refusal (x .refusal) (x .place))
+abbrev pub packedExtent : Extent → ℕ
+packedExtent x = counted (x .refusal) (x .place) (x .bytes)
 
 -- how many bytes were written
-unfoldable pub packedWritten : Written → ℕ
-packedWritten x = pick (eqb (x .refusal) 0) (bytesTold (x .written)) (refusal (x .refusal) (x .place))
+abbrev pub packedWritten : Written → ℕ
+packedWritten x = counted (x .refusal) (x .place) (x .written)

@@ -3,7 +3,7 @@
 // standing pair; 44..52 how many literals were written; 56..63 the code: 0 none, 1 smaller, 2 cut, 128 and the number of a
 // refusal.
 use graph::Graph;
-use packing::bytes_told;
+use packing::counted;
 use packing::joined;
 use packing::refused;
 use search::Verdict;
@@ -78,12 +78,7 @@ pub extern "C" fn cafruzek_judge_rows<'a, 'b, 'c, 'd>(
 }
 
 // The graph value of these rows.
-fn graph_of<'a, 'b>(
-    order: u32,
-    edges: &'a [u32; 32],
-    unknowns: &'b [u32; 32],
-    starts: u32,
-) -> Graph
+fn graph_of<'a, 'b>(order: u32, edges: &'a [u32; 32], unknowns: &'b [u32; 32], starts: u32) -> Graph
     ensures { λ r. ⌜ r ≡ graphOf order (now (edges .entry)) (now (unknowns .entry)) starts ⌝ }
 {
     let e = *edges;
@@ -102,10 +97,7 @@ pub extern "C" fn cafruzek_record_size(bytes: &[u8]) -> u64
     ensures { λ r. ⌜ r ≡ packedExtent (recordAt (now (bytes .entry))) ⌝ }
 {
     let found = record::record_at(bytes);
-    if found.refusal != 0 {
-        return refused(found.refusal, found.place);
-    }
-    bytes_told(found.bytes)
+    counted(found.refusal, found.place, found.bytes)
 }
 
 // Writes the record of the graph value of these rows at the start of out, and nothing after it, and tells how many bytes
@@ -122,8 +114,5 @@ pub extern "C" fn cafruzek_write_record<'a, 'b, 'c>(
 {
     let graph = graph_of(order, edges, unknowns, starts);
     let done = record::write(graph, out);
-    if done.refusal != 0 {
-        return refused(done.refusal, done.place);
-    }
-    bytes_told(done.written)
+    counted(done.refusal, done.place, done.written)
 }

@@ -1,7 +1,7 @@
 // An answer as one number.
 ghost use mathlib.Core.Path.{_≡_};
-ghost use Prim.Native.Nat.{_<_};
-ghost use Rattle.cafruzek.specs.Packing.{fields, placeTold, refusal, bytesTold};
+ghost use Prim.Native.Nat.{_<_, _≤_};
+ghost use Rattle.cafruzek.specs.Packing.{fields, placeTold, refusal, counted};
 
 // The number with these fields.
 pub fn joined(low: u32, row: u32, column: u32, literals: usize, code: u32) -> u64
@@ -19,7 +19,7 @@ pub fn joined(low: u32, row: u32, column: u32, literals: usize, code: u32) -> u6
 fn place_told(place: usize) -> u32
     ensures { λ r. ⌜ r ≡ placeTold place ⌝ }
 {
-    if place < 4294967295 {
+    if place <= 4294967295 {
         return place as u32;
     }
     4294967295
@@ -33,10 +33,13 @@ pub fn refused(number: u32, place: usize) -> u64
     joined(place_told(place), 0, 0, 0, 128 + number)
 }
 
-// A number of bytes.
-pub fn bytes_told(count: usize) -> u64
-    requires { ⌜ count < 4294967296 ⌝ }
-    ensures { λ r. ⌜ r ≡ bytesTold count ⌝ }
+// A number of bytes, or the refusal where its number is not 0.
+pub fn counted(number: u32, place: usize, count: usize) -> u64
+    requires { ⌜ (number < 128) × (count ≤ 129) ⌝ }
+    ensures { λ r. ⌜ r ≡ counted number place count ⌝ }
 {
-    joined(count as u32, 0, 0, 0, 0)
+    if number == 0 {
+        return joined(count as u32, 0, 0, 0, 0);
+    }
+    refused(number, place)
 }

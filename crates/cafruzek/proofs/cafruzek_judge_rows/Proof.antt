@@ -1,4 +1,5 @@
 use borrow.Author.Needs.{needs}
+use Rattle.cafruzek.proofs.JudgeCases.{rows-packed, rows-buffer, rows-arranged}
 use Rattle.cafruzek.proofs.cafruzek_judge_rows.Statement.{statement}
 use Rattle.cafruzek.proofs.cafruzek_judge_rows.Tie as tie
 
@@ -12,7 +13,7 @@ same-length : tie.Need-same-length
 same-length c = search needs
 
 returns : tie.Need-returns
-returns c = search needs
+returns c = search (rows-packed, rows-buffer, rows-arranged, needs)
 
 pub cafruzek-judge-rows-spec : {M : Type 1} → statement M
 cafruzek-judge-rows-spec =

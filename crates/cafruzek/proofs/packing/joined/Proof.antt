@@ -1,4 +1,5 @@
 use borrow.Author.Needs.{needs}
+use Rattle.cafruzek.specs.Packing.{fields}
 use Rattle.cafruzek.proofs.packing.joined.Statement.{statement}
 use Rattle.cafruzek.proofs.packing.joined.Tie as tie
 
@@ -15,6 +16,7 @@ add-result-4 : tie.Need-add-result-4
 add-result-4 c = search needs
 
 returns : tie.Need-returns
+unfolding fields
 returns c = search needs
 
 pub joined-spec : {M : Type 1} → statement M

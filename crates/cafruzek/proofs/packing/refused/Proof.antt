@@ -1,4 +1,5 @@
 use borrow.Author.Needs.{needs}
+use Rattle.cafruzek.proofs.PackingCases.{refusal-made}
 use Rattle.cafruzek.proofs.packing.refused.Statement.{statement}
 use Rattle.cafruzek.proofs.packing.refused.Tie as tie
 
@@ -12,7 +13,7 @@ joined-requires : tie.Need-joined-requires
 joined-requires c κs = search needs
 
 returns : tie.Need-returns
-returns c = search needs
+returns c = search (refusal-made, needs)
 
 pub refused-spec : {M : Type 1} → statement M
 refused-spec = tie.close (tie.spec place-told-requires add-joined joined-requires returns)
