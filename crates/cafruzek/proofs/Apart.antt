@@ -1,7 +1,7 @@
 -- Each field of an answer is what was told.
 use Prim.Native.Nat.{ℕ, _+_, _≤_, _<_, _^_}
 use native.Mathlib.Omega.{arith}
-use mathlib.Core.Path.{_≡_, refl, ap, _∙_}
+use mathlib.Core.Path.{_≡_, _∙_}
 use mathlib.Core.Logic.{_≢_}
 use mathlib.Core.List.{List}
 use borrow.Author.Tests.{le-leb, lt-ltb, le-ltb, eq-eqb, ne-eqb}
@@ -20,25 +20,30 @@ pub place-itself : (place : ℕ) → place ≤ 4294967295 → placeTold place �
 unfolding placeTold
 place-itself place h = pick-true (leb place 4294967295) place 4294967295 (le-leb place 4294967295 h)
 
--- ---- judgements
+-- ---- judgements, as judged-bounded and record-bounded of Bounds.antt give them
 
 module _ (budget : ℕ) (a : Judged) (b : Bounded budget a) (h : budget < 2 ^ 32) where
+  -- the row of the standing pair
   pub packed-row : rowIn (packed a) ≡ told (a .verdict) .row
   unfolding packed
   packed-row = row-is _ _ _ _ _ (judged-fits budget a b h)
 
+  -- its column
   pub packed-column : columnIn (packed a) ≡ told (a .verdict) .column
   unfolding packed
   packed-column = column-is _ _ _ _ _ (judged-fits budget a b h)
 
+  -- the number of literals
   pub packed-literals : literalsIn (packed a) ≡ a .literals
   unfolding packed
   packed-literals = literals-are _ _ _ _ _ (judged-fits budget a b h)
 
+  -- the code
   pub packed-code : codeIn (packed a) ≡ told (a .verdict) .code
   unfolding packed
   packed-code = code-is _ _ _ _ _ (judged-fits budget a b h)
 
+  -- what stands in the low bits
   packed-low : lowIn (packed a) ≡ lowTold (told (a .verdict))
   unfolding packed
   packed-low = low-is _ _ _ _ _ (judged-fits budget a b h)
@@ -76,16 +81,20 @@ counted-refused number place count ne h =
 
 -- of the record at the start of some bytes
 module _ (s : List ℕ) where
+  -- its size
   pub size-given : recordAt s .refusal ≡ 0 → (lowIn (packedExtent (recordAt s)) ≡ recordAt s .bytes) × (codeIn (packedExtent (recordAt s)) ≡ 0)
   size-given e = counted-given (recordAt s .refusal) (recordAt s .place) (recordAt s .bytes) e (extent-small s .1)
 
+  -- or the refusal
   pub size-refused : recordAt s .refusal ≢ 0 → (lowIn (packedExtent (recordAt s)) ≡ placeTold (recordAt s .place)) × (codeIn (packedExtent (recordAt s)) ≡ 128 + recordAt s .refusal)
   size-refused ne = counted-refused (recordAt s .refusal) (recordAt s .place) (recordAt s .bytes) ne (omega (arith, extent-small s))
 
 -- of a record that is written
 module _ (g : Graph) (out : List ℕ) where
+  -- the bytes written
   pub write-given : writeAnswer g out .refusal ≡ 0 → (lowIn (packedWritten (writeAnswer g out)) ≡ writeAnswer g out .written) × (codeIn (packedWritten (writeAnswer g out)) ≡ 0)
   write-given e = counted-given (writeAnswer g out .refusal) (writeAnswer g out .place) (writeAnswer g out .written) e (written-small g out .1)
 
+  -- or the refusal
   pub write-refused : writeAnswer g out .refusal ≢ 0 → (lowIn (packedWritten (writeAnswer g out)) ≡ placeTold (writeAnswer g out .place)) × (codeIn (packedWritten (writeAnswer g out)) ≡ 128 + writeAnswer g out .refusal)
   write-refused ne = counted-refused (writeAnswer g out .refusal) (writeAnswer g out .place) (writeAnswer g out .written) ne (omega (arith, written-small g out))

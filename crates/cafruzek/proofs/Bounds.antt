@@ -1,15 +1,15 @@
 -- What is told fits the places that it has in an answer.
-use Prim.Native.Nat.{ℕ, suc, _+_, _≤_, _<_, _^_}
+use Prim.Native.Nat.{ℕ, _≤_, _<_, _^_}
 use native.Mathlib.Omega.{arith}
-use mathlib.Core.Path.{_≡_, refl, sym, subst}
+use mathlib.Core.Path.{_≡_, refl}
 use mathlib.Core.Bool.{Bool, true, false}
-use mathlib.Core.List.{List, _∷_, List·Memᴰ, List·Memᴰ·head, Memᴰ·append-right}
-use borrow.Author.Tests.{leb-true, lt-ltb, le-ltb, lt-leb, eqb-true}
+use mathlib.Core.List.{List, List·Memᴰ·head, Memᴰ·append-right}
+use borrow.Author.Tests.{leb-true}
 use lib.ListN.{length}
 use lib.Dec.{eqb, leb, ltb}
 use Rattle.laws.specs.Test.{pick, unless}
 use Rattle.graph.specs.declared.Graph.{Graph}
-use Rattle.graph.specs.WellFormed.{WellFormed, wellFormed, orderFits}
+use Rattle.graph.specs.WellFormed.{wellFormed, orderFits}
 use Rattle.graph.specs.Pairs.{Pair, pairs, pairCount, entryAt}
 use Rattle.graph.proofs.Formed.{formed, order-in-range}
 use Rattle.graph.proofs.PairLaws.{Between, pairs-given, pairCount-mono}
@@ -53,6 +53,7 @@ check P false refusal rest p q = p refl
 abbrev SmallExtent : Extent → Type 0
 SmallExtent x = (x .refusal ≤ 4) × (x .bytes ≤ 129)
 
+-- by the checks one after the other
 in-small : (f : ℕ → ℕ) (n given : ℕ) → SmallExtent (recordIn f n given)
 unfolding recordIn
 in-small f n given =
@@ -63,10 +64,12 @@ in-small f n given =
     check SmallExtent (eqb (padIn f n) 0) (extent 4 0 0) (extent 0 0 (byteCount n)) (λ e. omega arith) (λ e.
     omega (arith, bytes-high n (order-in-range n within .1)))))))
 
+-- of the record at the start of some bytes
 pub extent-small : (s : List ℕ) → (recordAt s .refusal ≤ 4) × (recordAt s .bytes ≤ 129)
 unfolding recordAt
 extent-small s = in-small (bitOf s) (orderIn (bitOf s)) (length s)
 
+-- and so does reading its graph
 pub read-refusal : (s : List ℕ) → readAnswer s .refusal ≤ 4
 unfolding readAnswer
 read-refusal s = extent-small s .0
@@ -75,6 +78,7 @@ read-refusal s = extent-small s .0
 abbrev SmallWritten : Written → Type 0
 SmallWritten x = (x .refusal ≤ 8) × (x .written ≤ 129)
 
+-- by the checks one after the other
 pub written-small : (g : Graph) (out : List ℕ) → (writeAnswer g out .refusal ≤ 8) × (writeAnswer g out .written ≤ 129)
 unfolding writeAnswer
 written-small g out =
@@ -96,6 +100,7 @@ pub record Bounded (budget : ℕ) (a : Judged) : Type 0 where
 stands-between : (g : Graph) (p : List ℕ) (k : Pair) → StandsIn (entryAt g) (image p) (pairs (g .order)) k → Between 1 (g .order) k
 stands-between g p k s = pairs-given (g .order) k (rw (s .split) (Memᴰ·append-right (s .before) (List·Memᴰ·head refl)))
 
+-- judging a graph value stays within these
 pub judged-bounded : (g : Graph) (budget room : ℕ) → Bounded budget (judgeAnswer g budget room)
 unfolding told without
 judged-bounded g budget room = at (judged-in-words g budget room)
@@ -117,7 +122,7 @@ judged-bounded g budget room = at (judged-in-words g budget room)
           steps-within = l;
         }
 
--- and of a record
+-- and so does judging a record
 pub record-bounded : (s : List ℕ) (budget room : ℕ) → Bounded budget (judgeRecord s budget room)
 unfolding judgeRecord told without pick
 record-bounded s budget room = go (eqb (readAnswer s .refusal) 0)
@@ -129,6 +134,7 @@ record-bounded s budget room = go (eqb (readAnswer s .refusal) 0)
 -- ---- the fields of a judgement
 
 module _ (budget : ℕ) (a : Judged) (b : Bounded budget a) (h : budget < 2 ^ 32) where
+  -- the steps or the place take 32 bits
   low-told-fits : lowTold (told (a .verdict)) < 2 ^ 32
   unfolding lowTold pick
   low-told-fits = go (ltb (told (a .verdict) .code) 128)
@@ -137,6 +143,6 @@ module _ (budget : ℕ) (a : Judged) (b : Bounded budget a) (h : budget < 2 ^ 32
       go true = omega arith
       go false = place-fits (told (a .verdict) .place)
 
-  -- they fit their places
+  -- and every field fits its place
   pub judged-fits : Fitting (lowTold (told (a .verdict))) (told (a .verdict) .row) (told (a .verdict) .column) (a .literals) (told (a .verdict) .code)
   judged-fits = omega (arith, low-told-fits)

@@ -1,5 +1,5 @@
 -- The fields of a number are those that it was made of.
-use Prim.Native.Nat.{ℕ, _+_, _*_, _/_, _%_, _^_, _<_}
+use Prim.Native.Nat.{ℕ, _^_, _<_}
 use native.Mathlib.Omega.{arith}
 use mathlib.Core.Path.{_≡_}
 use Rattle.cafruzek.specs.Packing.{fields, bitsFrom, lowIn, rowIn, columnIn, literalsIn, codeIn}
@@ -18,18 +18,22 @@ module _ (low row column literals code : ℕ) (f : Fitting low row column litera
   unfolding fields
   low-is = omega arith
 
+  -- the row
   pub row-is : rowIn (fields low row column literals code) ≡ row
   unfolding fields
   row-is = omega arith
 
+  -- the column
   pub column-is : columnIn (fields low row column literals code) ≡ column
   unfolding fields
   column-is = omega arith
 
+  -- the number of literals
   pub literals-are : literalsIn (fields low row column literals code) ≡ literals
   unfolding fields
   literals-are = omega arith
 
+  -- the code
   pub code-is : codeIn (fields low row column literals code) ≡ code
   unfolding fields
   code-is = omega arith

@@ -1,7 +1,7 @@
 -- The answer of judging a graph value in each of its cases, as the code makes it.
-use Prim.Native.Nat.{ℕ, _+_, _≤_, _<_}
+use Prim.Native.Nat.{ℕ, _+_, _<_}
 use native.Mathlib.Omega.{arith}
-use mathlib.Core.Path.{_≡_, refl, sym, ap, subst, _∙_}
+use mathlib.Core.Path.{_≡_, ap, _∙_}
 use mathlib.Core.Logic.{_≢_}
 use mathlib.Core.List.{List}
 use mathlib.Core.Bool.{false}
@@ -10,16 +10,16 @@ use lib.IntN.{ℤ}
 use lib.Dec.{ltb}
 use Rattle.laws.specs.Test.{pick}
 use Rattle.graph.specs.declared.Graph.{Graph}
-use Rattle.search.specs.declared.Verdict.{Verdict}
 use Rattle.search.specs.declared.Verdict.the-variants.{Smaller, Nothing, Cut, Refused}
 use Rattle.search.specs.declared.Judged.{Judged}
 use Rattle.search.specs.Answer.{told, judgeAnswer, judgeBuffer}
 use Rattle.search.proofs.Buffer.{zeros-beside}
-use Rattle.cafruzek.specs.Packing.{fields, placeTold, refusal, lowTold, packed}
+use Rattle.cafruzek.specs.Packing.{fields, refusal, lowTold, packed}
 use Rattle.cafruzek.specs.Answers.{arrangedBy, arrangedAfter}
 use Rattle.cafruzek.proofs.Bounds.{Bounded, judged-bounded}
 
 module _ (g : Graph) (budget room : ℕ) (a : Judged) (is-a : a ≡ judgeAnswer g budget room) where
+  -- what is told is bounded
   bounded : Bounded budget a
   bounded = rw is-a (judged-bounded g budget room)
 
@@ -32,49 +32,59 @@ module _ (g : Graph) (budget room : ℕ) (a : Judged) (is-a : a ≡ judgeAnswer 
   literals-fit = omega (arith, bounded)
 
   module _ (row column steps : ℕ) (v : a .verdict ≡ Smaller row column steps) where
+    -- smaller: the pair is small
     pub smaller-row : row < 64
     unfolding told
     smaller-row = omega (arith, rw v at (bounded .row-small))
 
+    -- in its column too
     pub smaller-column : column < 64
     unfolding told
     smaller-column = omega (arith, rw v at (bounded .column-small))
 
+    -- the number with the pair, the steps and the literals
     pub smaller-packed : (x : ℕ) → x ≡ fields steps row column (a .literals) 1 → x ≡ packed (judgeAnswer g budget room)
     unfolding packed told lowTold pick
     smaller-packed x e = rw (e, ← is-a, v)
 
+    -- and the certificate in the lent arrangement
     pub smaller-arranged : (lent : List ℕ) → a .arrangement ≡ arrangedAfter (judgeAnswer g budget room) lent
     unfolding arrangedAfter arrangedBy
     smaller-arranged lent = rw (← is-a, v)
 
   module _ (steps : ℕ) (v : a .verdict ≡ Nothing steps) where
+    -- none: the number with the steps
     pub none-packed : (x : ℕ) → x ≡ fields steps 0 0 0 0 → x ≡ packed (judgeAnswer g budget room)
     unfolding packed told lowTold pick
     none-packed x e =
         let z : a .literals ≡ 0 = none-written (rw v (λ q. omega arith)) in
         rw (e, ← is-a, v, z)
 
+    -- and the arrangement as it was
     pub none-arranged : (lent : List ℕ) → lent ≡ arrangedAfter (judgeAnswer g budget room) lent
     unfolding arrangedAfter arrangedBy
     none-arranged lent = rw (← is-a, v)
 
   module _ (steps : ℕ) (v : a .verdict ≡ Cut steps) where
+    -- cut: the number with the budget
     pub cut-packed : (x : ℕ) → x ≡ fields steps 0 0 0 2 → x ≡ packed (judgeAnswer g budget room)
     unfolding packed told lowTold pick
     cut-packed x e =
         let z : a .literals ≡ 0 = none-written (rw v (λ q. omega arith)) in
         rw (e, ← is-a, v, z)
 
+    -- and the arrangement as it was
     pub cut-arranged : (lent : List ℕ) → lent ≡ arrangedAfter (judgeAnswer g budget room) lent
     unfolding arrangedAfter arrangedBy
     cut-arranged lent = rw (← is-a, v)
 
   module _ (number place : ℕ) (v : a .verdict ≡ Refused number place) where
+    -- refused: by a small number
     pub refusal-number : number < 128
     unfolding told
     refusal-number = omega (arith, rw v at (bounded .code-small))
 
+    -- the number with the refusal and its place
     pub refusal-packed : (x : ℕ) → x ≡ refusal number place → x ≡ packed (judgeAnswer g budget room)
     unfolding packed told lowTold pick refusal
     refusal-packed x e =
@@ -82,18 +92,22 @@ module _ (g : Graph) (budget room : ℕ) (a : Judged) (is-a : a ≡ judgeAnswer 
         let t : ltb (128 + number) 128 ≡ false = le-ltb (128 + number) 128 (omega arith) in
         rw (e, ← is-a, v, z, t)
 
+    -- and the arrangement as it was
     pub refusal-arranged : (lent : List ℕ) → lent ≡ arrangedAfter (judgeAnswer g budget room) lent
     unfolding arrangedAfter arrangedBy
     refusal-arranged lent = rw (← is-a, v)
 
--- ---- the graph value made of rows
+-- ---- the graph value h that is g, made of rows
 
 module _ (g h : Graph) (budget : ℕ) (same : h ≡ g) where
+  -- the number
   pub rows-packed : (room x : ℕ) → x ≡ packed (judgeAnswer h budget room) → x ≡ packed (judgeAnswer g budget room)
   rows-packed room x e = rw same at e
 
+  -- the literals
   pub rows-buffer : (buffer after : List ℤ) → after ≡ judgeBuffer h budget buffer → after ≡ judgeBuffer g budget buffer
   rows-buffer buffer after e = rw same at e
 
+  -- the arrangement
   pub rows-arranged : (room : ℕ) (lent after : List ℕ) → after ≡ arrangedAfter (judgeAnswer h budget room) lent → after ≡ arrangedAfter (judgeAnswer g budget room) lent
   rows-arranged room lent after e = rw same at e

@@ -1,56 +1,64 @@
 -- The answer of judging a record in each of its cases, as the code makes it.
 use Prim.Native.Nat.{ℕ, _+_, _≤_, _<_}
 use native.Mathlib.Omega.{arith}
-use mathlib.Core.Path.{_≡_, refl, sym, ap, _∙_}
+use mathlib.Core.Path.{_≡_, ap, _∙_}
 use mathlib.Core.Bool.{false}
 use mathlib.Core.List.{List}
 use borrow.Author.Tests.{le-ltb, eq-eqb, ne-eqb}
 use lib.IntN.{ℤ}
 use lib.ListN.{length}
-use lib.Dec.{eqb, ltb}
+use lib.Dec.{ltb}
 use Rattle.laws.specs.Test.{pick}
 use Rattle.graph.specs.declared.Graph.{Graph}
 use Rattle.record.specs.declared.Extent.{Extent}
 use Rattle.record.specs.declared.Record.{Record}
 use Rattle.record.specs.declared.Written.{Written}
 use Rattle.record.specs.Answers.{recordAt, readAnswer, writeAnswer, bufferAfter}
-use Rattle.search.specs.declared.Verdict.the-variants.{Refused}
 use Rattle.search.specs.Answer.{told, without, judgeAnswer, judgeBuffer}
 use Rattle.cafruzek.specs.Packing.{refusal, lowTold, packed, packedExtent, packedWritten}
 use Rattle.cafruzek.specs.Answers.{arrangedBy, arrangedAfter, judgeRecord, judgeRecordBuffer}
 use Rattle.cafruzek.proofs.Bounds.{extent-small, read-refusal, written-small}
 
 module _ (s : List ℕ) (r : Record) (is-r : r ≡ readAnswer s) where
+  -- reading refuses by a small number
   pub read-number : r .refusal < 128
   read-number = omega (arith, ap (λ (x : Record). x .refusal) is-r, read-refusal s)
 
   module _ (budget : ℕ) (buffer : List ℤ) (lent : List ℕ) where
-    -- a refused reading is the answer, and nothing is changed
+    -- ---- a refused reading
+
     module _ (ne : r .refusal ≡ 0 → ⊥) where
+      -- is the answer
       pub unread-packed : (x : ℕ) → x ≡ refusal (r .refusal) (r .place) → x ≡ packed (judgeRecord s budget (length buffer))
       unfolding judgeRecord pick without packed told lowTold refusal
       unread-packed x e =
           let t : ltb (128 + r .refusal) 128 ≡ false = le-ltb (128 + r .refusal) 128 (omega arith) in
           rw (e, ← is-r, ne-eqb (r .refusal) 0 ne, t)
 
+      -- the literals are as they were
       pub unread-buffer : buffer ≡ judgeRecordBuffer s budget buffer
       unfolding judgeRecordBuffer pick
       unread-buffer = rw (← is-r, ne-eqb (r .refusal) 0 ne)
 
+      -- and the arrangement too
       pub unread-arranged : lent ≡ arrangedAfter (judgeRecord s budget (length buffer)) lent
       unfolding judgeRecord pick without arrangedAfter arrangedBy
       unread-arranged = rw (← is-r, ne-eqb (r .refusal) 0 ne)
 
-    -- else the graph is judged
+    -- ---- a graph that was read is judged
+
     module _ (e : r .refusal ≡ 0) where
+      -- its answer is the answer
       pub read-packed : (x : ℕ) → x ≡ packed (judgeAnswer (r .graph) budget (length buffer)) → x ≡ packed (judgeRecord s budget (length buffer))
       unfolding judgeRecord pick
       read-packed x q = rw (q, ← is-r, eq-eqb (r .refusal) 0 e)
 
+      -- its clause is written
       pub read-buffer : (after : List ℤ) → after ≡ judgeBuffer (r .graph) budget buffer → after ≡ judgeRecordBuffer s budget buffer
       unfolding judgeRecordBuffer pick
       read-buffer after q = rw (q, ← is-r, eq-eqb (r .refusal) 0 e)
 
+      -- and its certificate
       pub read-arranged : (after : List ℕ) → after ≡ arrangedAfter (judgeAnswer (r .graph) budget (length buffer)) lent
           → after ≡ arrangedAfter (judgeRecord s budget (length buffer)) lent
       unfolding judgeRecord pick
@@ -58,26 +66,33 @@ module _ (s : List ℕ) (r : Record) (is-r : r ≡ readAnswer s) where
 
 -- ---- numbers of bytes
 
+-- a record is refused by a small number
 pub extent-number : (s : List ℕ) (x : Extent) → x ≡ recordAt s → x .refusal < 128
 extent-number s x e = omega (arith, ap (λ (y : Extent). y .refusal) e, extent-small s)
 
+-- and takes few bytes
 pub extent-bytes : (s : List ℕ) (x : Extent) → x ≡ recordAt s → x .bytes ≤ 129
 extent-bytes s x e = omega (arith, ap (λ (y : Extent). y .bytes) e, extent-small s)
 
+-- the size told is that of the record
 pub size-made : (s : List ℕ) (x : Extent) → x ≡ recordAt s → (y : ℕ) → y ≡ packedExtent x → y ≡ packedExtent (recordAt s)
 size-made s x e y q = rw e at q
 
 -- the graph h is the one that the rows make
 module _ (g h : Graph) (same : h ≡ g) (out : List ℕ) where
   module _ (x : Written) (e : x ≡ writeAnswer h out) where
+    -- writing is refused by a small number
     pub written-number : x .refusal < 128
     written-number = omega (arith, ap (λ (y : Written). y .refusal) e, written-small h out)
 
+    -- and writes few bytes
     pub written-bytes : x .written ≤ 129
     written-bytes = omega (arith, ap (λ (y : Written). y .written) e, written-small h out)
 
+    -- the number told is that of the graph
     pub writing-made : (y : ℕ) → y ≡ packedWritten x → y ≡ packedWritten (writeAnswer g out)
     writing-made y q = q ∙ ap packedWritten (e ∙ ap (λ (z : Graph). writeAnswer z out) same)
 
+  -- and so are the bytes
   pub writing-buffer : (after : List ℕ) → after ≡ bufferAfter h out → after ≡ bufferAfter g out
   writing-buffer after q = q ∙ ap (λ (z : Graph). bufferAfter z out) same

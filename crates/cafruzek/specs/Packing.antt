@@ -18,6 +18,7 @@ fields low row column literals code = low + row * 2 ^ 32 + column * 2 ^ 38 + lit
 abbrev pub bitsFrom : ℕ → ℕ → ℕ → ℕ
 bitsFrom x k width = x / 2 ^ k % 2 ^ width
 
+-- the fields of an answer
 abbrev pub lowIn : ℕ → ℕ
 lowIn x = bitsFrom x 0 32
 

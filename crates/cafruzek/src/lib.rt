@@ -17,6 +17,20 @@ ghost use Rattle.cafruzek.specs.Answers.{arrangedAfter, graphOf, judgeRe
 
 mod packing;
 
+// The graph value of these rows.
+fn graph_of<'a, 'b>(order: u32, edges: &'a [u32; 32], unknowns: &'b [u32; 32], starts: u32) -> Graph
+    ensures { λ r. ⌜ r ≡ graphOf order (now (edges .entry)) (now (unknowns .entry)) starts ⌝ }
+{
+    let e = *edges;
+    let u = *unknowns;
+    Graph {
+        order,
+        edges: e,
+        unknowns: u,
+        starts,
+    }
+}
+
 // Judges a graph value.
 fn judge_graph<'a, 'b>(
     graph: Graph,
@@ -81,21 +95,7 @@ pub extern "C" fn cafruzek_judge_rows<'a, 'b, 'c, 'd>(
     )
 }
 
-// The graph value of these rows.
-fn graph_of<'a, 'b>(order: u32, edges: &'a [u32; 32], unknowns: &'b [u32; 32], starts: u32) -> Graph
-    ensures { λ r. ⌜ r ≡ graphOf order (now (edges .entry)) (now (unknowns .entry)) starts ⌝ }
-{
-    let e = *edges;
-    let u = *unknowns;
-    Graph {
-        order,
-        edges: e,
-        unknowns: u,
-        starts,
-    }
-}
-
-// How many bytes the record that the bytes begin with takes, or the refusal, as reading refuses.
+// Answers how many bytes the record that the bytes begin with takes, or the refusal, as reading refuses.
 #[no_mangle]
 pub extern "C" fn cafruzek_record_size(bytes: &[u8]) -> u64
     ensures { λ r. ⌜ r ≡ packedExtent (recordAt (now (bytes .entry))) ⌝ }
@@ -104,8 +104,8 @@ pub extern "C" fn cafruzek_record_size(bytes: &[u8]) -> u64
     counted(found.refusal, found.place, found.bytes)
 }
 
-// Writes the record of the graph value of these rows at the start of out, and nothing after it, and tells how many bytes
-// that are. A refusal changes nothing.
+// Writes the record of the graph value of these rows at the start of out, and nothing after it, and answers how many
+// bytes that is. A refusal changes nothing.
 #[no_mangle]
 pub extern "C" fn cafruzek_write_record<'a, 'b, 'c>(
     order: u32,
