@@ -23,6 +23,17 @@ unsafe extern "C" {
         literals_len: usize,
         arrangement: *mut u8,
     ) -> u64;
+
+    fn cafruzek_record_size(record: *const u8, record_len: usize) -> u64;
+
+    fn cafruzek_write_record(
+        order: u32,
+        edges: *const u32,
+        unknowns: *const u32,
+        starts: u32,
+        out: *mut u8,
+        out_len: usize,
+    ) -> u64;
 }
 
 /// Judges the record at the start of the bytes.
@@ -68,6 +79,40 @@ pub fn judge_rows(
     }
 }
 
+/// Tells how many bytes the record at the start of the bytes takes.
+pub fn record_size(bytes: &[u8]) -> u64 {
+    // SAFETY: as above.
+    unsafe { cafruzek_record_size(bytes.as_ptr(), bytes.len()) }
+}
+
+/// Writes the record of a graph value at the start of a buffer.
+pub fn write_record(graph: &Graph, out: &mut [u8]) -> u64 {
+    // SAFETY: as above.
+    unsafe {
+        cafruzek_write_record(
+            graph.order,
+            graph.edges.as_ptr(),
+            graph.unknowns.as_ptr(),
+            graph.starts,
+            out.as_mut_ptr(),
+            out.len(),
+        )
+    }
+}
+
+/// The bits in which the library gives a refusal: its code and its place.
+fn packed_refusal(refusal: Refusal) -> u64 {
+    (128 + u64::from(refusal.number)) << 56 | refusal.place.min(u64::from(u32::MAX))
+}
+
+/// The one number by which the library gives a number of bytes.
+pub fn packed_size(size: Result<usize, Refusal>) -> u64 {
+    match size {
+        Ok(bytes) => bytes as u64,
+        Err(refusal) => packed_refusal(refusal),
+    }
+}
+
 /// The one number by which the library gives a judgement.
 pub fn packed(judgement: &Judgement) -> u64 {
     let number = |ending: u64, row: u32, column: u32, low: u64| {
@@ -81,7 +126,7 @@ pub fn packed(judgement: &Judgement) -> u64 {
         Verdict::Nothing { steps } => number(0, 0, 0, u64::from(steps)),
         Verdict::Smaller { row, column, steps } => number(1, row, column, u64::from(steps)),
         Verdict::Cut { steps } => number(2, 0, 0, u64::from(steps)),
-        Verdict::Refused(refusal) => number(128 + u64::from(refusal.number), 0, 0, refusal.place),
+        Verdict::Refused(refusal) => packed_refusal(refusal),
     }
 }
 

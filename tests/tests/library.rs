@@ -8,10 +8,10 @@ use std::env;
 
 use oracle::graph::Graph;
 use oracle::judge::judge;
-use oracle::library::{judge_record, judge_rows, packed};
+use oracle::library::{judge_record, judge_rows, packed, packed_size, record_size, write_record};
 use oracle::pairs::pair_count;
 use oracle::random::Random;
-use oracle::record::{read, record};
+use oracle::record::{read, record, size, write};
 use oracle::samples;
 use oracle::verdict::{Judgement, Verdict};
 
@@ -109,6 +109,45 @@ impl Call {
     }
 }
 
+/// Checks the size of the record at the start of the bytes.
+fn check_size(random: &mut Random, bytes: &[u8]) {
+    let mut lent = Lent::holding(random, bytes, Random::byte);
+    assert_eq!(record_size(lent.lend()), packed_size(size(bytes)));
+    lent.written(&[]);
+}
+
+/// Checks what is written of a graph value into a buffer of this length.
+fn check_write(random: &mut Random, graph: &Graph, length: usize) {
+    let mut out = Lent::new(random, length, Random::byte);
+    let mut expected = vec![0; length];
+    let answer = write(graph, &mut expected);
+    assert_eq!(write_record(graph, out.lend()), packed_size(answer));
+    out.written(&expected[..answer.unwrap_or(0)]);
+}
+
+/// A record, sometimes with bytes after it, damaged or cut; or no record.
+fn some_bytes(random: &mut Random) -> Vec<u8> {
+    let graph = some_graph(random);
+    let mut bytes = record(&graph);
+    if random.chance(30) {
+        let tail = random.below(4) as usize;
+        bytes.extend(random.bytes(tail));
+    }
+    match random.below(8) {
+        0 => {
+            let at = random.below(bytes.len() as u32) as usize;
+            bytes[at] ^= 1 << random.below(8);
+        }
+        1 => bytes.truncate(random.below(bytes.len() as u32) as usize),
+        2 => {
+            let length = random.below(140) as usize;
+            bytes = random.bytes(length);
+        }
+        _ => {}
+    }
+    bytes
+}
+
 /// A budget of 0, 1, around the steps needed or the largest, as long as the
 /// search stays short.
 fn budget(random: &mut Random, graph: &Graph) -> u32 {
@@ -176,24 +215,7 @@ fn random_rows() {
 fn random_records() {
     let mut random = Random::new(13);
     for _ in 0..calls() / 2 {
-        let graph = some_graph(&mut random);
-        let mut bytes = record(&graph);
-        if random.chance(30) {
-            let tail = random.below(4) as usize;
-            bytes.extend(random.bytes(tail));
-        }
-        match random.below(8) {
-            0 => {
-                let at = random.below(bytes.len() as u32) as usize;
-                bytes[at] ^= 1 << random.below(8);
-            }
-            1 => bytes.truncate(random.below(bytes.len() as u32) as usize),
-            2 => {
-                let length = random.below(140) as usize;
-                bytes = random.bytes(length);
-            }
-            _ => {}
-        }
+        let bytes = some_bytes(&mut random);
         let graph = read(&bytes).graph;
         let length = literals_length(&mut random, graph.order);
         let budget = budget(&mut random, &graph);
@@ -233,6 +255,63 @@ fn every_first_byte_with_every_short_length() {
                 *byte = first;
             }
             Call::new(&mut random, 100, 496).bytes(&mut random, &bytes);
+        }
+    }
+}
+
+#[test]
+fn sizes_of_random_records() {
+    let mut random = Random::new(17);
+    for _ in 0..calls() / 2 {
+        let bytes = some_bytes(&mut random);
+        check_size(&mut random, &bytes);
+    }
+}
+
+#[test]
+fn every_pair_of_first_bytes_has_its_size() {
+    let mut random = Random::new(18);
+    for first in 0..=u16::MAX {
+        let [a, b] = first.to_be_bytes();
+        let bytes = [a, b, 0, random.byte()];
+        for length in 0..=4 {
+            check_size(&mut random, &bytes[..length]);
+        }
+    }
+}
+
+#[test]
+fn random_rows_are_written() {
+    let mut random = Random::new(19);
+    for _ in 0..calls() / 2 {
+        let mut graph = some_graph(&mut random);
+        if random.chance(25) {
+            graph = samples::damaged(&mut random, graph);
+        }
+        let needed = record(&Graph::empty(graph.order.clamp(1, 32))).len();
+        let length = *random.pick(&[needed, needed, needed + 1, needed - 1, 0, 128, 129, 140]);
+        check_write(&mut random, &graph, length);
+    }
+}
+
+#[test]
+fn rows_are_written_to_every_buffer_length() {
+    let mut random = Random::new(20);
+    for order in 1..=32 {
+        let graph = samples::graph(&mut random, order);
+        for length in 0..=135 {
+            check_write(&mut random, &graph, length);
+        }
+    }
+}
+
+#[test]
+fn every_record_up_to_order_4_is_written() {
+    let mut random = Random::new(21);
+    for order in 1..=4 {
+        for graph in samples::every_graph(order) {
+            check_write(&mut random, &graph, record(&graph).len());
+            check_size(&mut random, &record(&graph));
         }
     }
 }

@@ -107,8 +107,8 @@ pub fn size(order: u32) -> Extent
     }
 }
 
-// The bytes of the record at the start of these, or why it is refused.
-fn record_at(bytes: &[u8]) -> Extent
+// How many bytes the record at the start of these takes, or why it is refused, as reading refuses.
+pub fn record_at(bytes: &[u8]) -> Extent
     ensures { λ r. ⌜ (r ≡ recordAt (now (bytes .entry))) × (r .bytes ≤ length (now (bytes .entry))) ⌝ }
 {
     let given = bytes.len();

@@ -1,0 +1,142 @@
+-- What is told fits the places that it has in an answer.
+use Prim.Native.Nat.{ℕ, suc, _+_, _≤_, _<_, _^_}
+use native.Mathlib.Omega.{arith}
+use mathlib.Core.Path.{_≡_, refl, sym, subst}
+use mathlib.Core.Bool.{Bool, true, false}
+use mathlib.Core.List.{List, _∷_, List·Memᴰ, List·Memᴰ·head, Memᴰ·append-right}
+use borrow.Author.Tests.{leb-true, lt-ltb, le-ltb, lt-leb, eqb-true}
+use lib.ListN.{length}
+use lib.Dec.{eqb, leb, ltb}
+use Rattle.laws.specs.Test.{pick, unless}
+use Rattle.graph.specs.declared.Graph.{Graph}
+use Rattle.graph.specs.WellFormed.{WellFormed, wellFormed, orderFits}
+use Rattle.graph.specs.Pairs.{Pair, pairs, pairCount, entryAt}
+use Rattle.graph.proofs.Formed.{formed, order-in-range}
+use Rattle.graph.proofs.PairLaws.{Between, pairs-given, pairCount-mono}
+use Rattle.record.specs.declared.Extent.{Extent}
+use Rattle.record.specs.declared.Written.{Written}
+use Rattle.record.specs.Layout.{byteCount}
+use Rattle.record.specs.Reading.{bitOf, orderIn, refusedIn, padIn}
+use Rattle.record.specs.Answers.{extent, recordIn, recordAt, readAnswer, written, writeAnswer}
+use Rattle.record.proofs.SizeLaws.{bytes-high}
+use Rattle.walk.specs.Words.{StandsIn}
+use Rattle.search.specs.declared.Judged.{Judged}
+use Rattle.search.specs.declared.Verdict.the-variants.{Refused}
+use Rattle.search.specs.Judging.{image}
+use Rattle.search.specs.Answer.{told, without, judgeAnswer}
+use Rattle.search.proofs.Exact.{InWords, malformed, cramped, cut-off, none-smaller, found-smaller, judged-in-words}
+use Rattle.search.proofs.Buffer.{clause-fits}
+use Rattle.cafruzek.specs.Packing.{placeTold, lowTold}
+use Rattle.cafruzek.specs.Answers.{judgeRecord}
+use Rattle.cafruzek.proofs.Fields.{Fitting}
+
+-- ---- places
+
+-- a place as it is told takes 32 bits
+pub place-fits : (place : ℕ) → placeTold place < 2 ^ 32
+unfolding placeTold pick
+place-fits place = go (leb place 4294967295) refl
+  where
+    go : (t : Bool) → leb place 4294967295 ≡ t → pick t place 4294967295 < 2 ^ 32
+    go true e = omega (arith, leb-true place 4294967295 e)
+    go false e = omega arith
+
+-- ---- records
+
+-- what holds of the refusal where a check fails, and of the rest where it passes, holds after it
+check : {A : Type 0} (P : A → Type 0) (t : Bool) (refusal rest : A) → (t ≡ false → P refusal) → (t ≡ true → P rest) → P (unless t refusal rest)
+unfolding unless
+check P true refusal rest p q = q refl
+check P false refusal rest p q = p refl
+
+-- reading refuses by a number up to 4, and a record takes at most 129 bytes
+abbrev SmallExtent : Extent → Type 0
+SmallExtent x = (x .refusal ≤ 4) × (x .bytes ≤ 129)
+
+in-small : (f : ℕ → ℕ) (n given : ℕ) → SmallExtent (recordIn f n given)
+unfolding recordIn
+in-small f n given =
+    check SmallExtent (leb 1 given) (extent 1 given 0) _ (λ e. omega arith) (λ e.
+    check SmallExtent (orderFits n) (extent 2 n 0) _ (λ e. omega arith) (λ within.
+    check SmallExtent (leb (byteCount n) given) (extent 1 given 0) _ (λ e. omega arith) (λ e.
+    check SmallExtent (eqb (refusedIn f n) 0) (extent 3 (refusedIn f n) 0) _ (λ e. omega arith) (λ e.
+    check SmallExtent (eqb (padIn f n) 0) (extent 4 0 0) (extent 0 0 (byteCount n)) (λ e. omega arith) (λ e.
+    omega (arith, bytes-high n (order-in-range n within .1)))))))
+
+pub extent-small : (s : List ℕ) → (recordAt s .refusal ≤ 4) × (recordAt s .bytes ≤ 129)
+unfolding recordAt
+extent-small s = in-small (bitOf s) (orderIn (bitOf s)) (length s)
+
+pub read-refusal : (s : List ℕ) → readAnswer s .refusal ≤ 4
+unfolding readAnswer
+read-refusal s = extent-small s .0
+
+-- writing refuses by a number up to 8, and writes at most 129 bytes
+abbrev SmallWritten : Written → Type 0
+SmallWritten x = (x .refusal ≤ 8) × (x .written ≤ 129)
+
+pub written-small : (g : Graph) (out : List ℕ) → (writeAnswer g out .refusal ≤ 8) × (writeAnswer g out .written ≤ 129)
+unfolding writeAnswer
+written-small g out =
+    check SmallWritten (wellFormed g) (written 8 0) _ (λ e. omega arith) (λ well.
+    check SmallWritten (leb (byteCount (g .order)) (length out)) (written 6 0) (written 0 (byteCount (g .order))) (λ e. omega arith) (λ e.
+    omega (arith, bytes-high (g .order) (formed g well .order-high))))
+
+-- ---- judgements
+
+-- what judging tells within a budget
+pub record Bounded (budget : ℕ) (a : Judged) : Type 0 where
+  pub row-small : told (a .verdict) .row ≤ 32
+  pub column-small : told (a .verdict) .column ≤ 32
+  pub literals-few : a .literals ≤ 496
+  pub code-small : told (a .verdict) .code ≤ 136
+  pub steps-within : told (a .verdict) .steps ≤ budget
+
+-- the standing pair is one of 1..n
+stands-between : (g : Graph) (p : List ℕ) (k : Pair) → StandsIn (entryAt g) (image p) (pairs (g .order)) k → Between 1 (g .order) k
+stands-between g p k s = pairs-given (g .order) k (rw (s .split) (Memᴰ·append-right (s .before) (List·Memᴰ·head refl)))
+
+pub judged-bounded : (g : Graph) (budget room : ℕ) → Bounded budget (judgeAnswer g budget room)
+unfolding told without
+judged-bounded g budget room = at (judged-in-words g budget room)
+  where
+    at : {a : Judged} → InWords g budget room a → Bounded budget a
+    at (malformed no-graph) = omega arith
+    at (cramped w h) = omega arith
+    at (cut-off w h l) = omega arith
+    at (none-smaller w h l nowhere) = omega arith
+    at (found-smaller w h l {p} {k} f) =
+        let b = stands-between g p k (f .standing) in
+        let few = clause-fits g p in
+        let most : pairCount (g .order) ≤ 496 = pairCount-mono (g .order) 32 (w .order-high) in
+        record {
+          row-small = omega arith;
+          column-small = omega arith;
+          literals-few = omega arith;
+          code-small = omega arith;
+          steps-within = l;
+        }
+
+-- and of a record
+pub record-bounded : (s : List ℕ) (budget room : ℕ) → Bounded budget (judgeRecord s budget room)
+unfolding judgeRecord told without pick
+record-bounded s budget room = go (eqb (readAnswer s .refusal) 0)
+  where
+    go : (t : Bool) → Bounded budget (pick t (judgeAnswer (readAnswer s .graph) budget room) (without (Refused (readAnswer s .refusal) (readAnswer s .place))))
+    go true = judged-bounded (readAnswer s .graph) budget room
+    go false = omega (arith, read-refusal s)
+
+-- ---- the fields of a judgement
+
+module _ (budget : ℕ) (a : Judged) (b : Bounded budget a) (h : budget < 2 ^ 32) where
+  low-told-fits : lowTold (told (a .verdict)) < 2 ^ 32
+  unfolding lowTold pick
+  low-told-fits = go (ltb (told (a .verdict) .code) 128)
+    where
+      go : (t : Bool) → pick t (told (a .verdict) .steps) (placeTold (told (a .verdict) .place)) < 2 ^ 32
+      go true = omega arith
+      go false = place-fits (told (a .verdict) .place)
+
+  -- they fit their places
+  pub judged-fits : Fitting (lowTold (told (a .verdict))) (told (a .verdict) .row) (told (a .verdict) .column) (a .literals) (told (a .verdict) .code)
+  judged-fits = omega (arith, low-told-fits)

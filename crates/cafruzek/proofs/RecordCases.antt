@@ -1,0 +1,83 @@
+-- The answer of judging a record in each of its cases, as the code makes it.
+use Prim.Native.Nat.{ℕ, _+_, _≤_, _<_}
+use native.Mathlib.Omega.{arith}
+use mathlib.Core.Path.{_≡_, refl, sym, ap, _∙_}
+use mathlib.Core.Bool.{false}
+use mathlib.Core.List.{List}
+use borrow.Author.Tests.{le-ltb, eq-eqb, ne-eqb}
+use lib.IntN.{ℤ}
+use lib.ListN.{length}
+use lib.Dec.{eqb, ltb}
+use Rattle.laws.specs.Test.{pick}
+use Rattle.graph.specs.declared.Graph.{Graph}
+use Rattle.record.specs.declared.Extent.{Extent}
+use Rattle.record.specs.declared.Record.{Record}
+use Rattle.record.specs.declared.Written.{Written}
+use Rattle.record.specs.Answers.{recordAt, readAnswer, writeAnswer, bufferAfter}
+use Rattle.search.specs.declared.Verdict.the-variants.{Refused}
+use Rattle.search.specs.Answer.{told, without, judgeAnswer, judgeBuffer}
+use Rattle.cafruzek.specs.Packing.{refusal, lowTold, packed, packedExtent, packedWritten}
+use Rattle.cafruzek.specs.Answers.{arrangedBy, arrangedAfter, judgeRecord, judgeRecordBuffer}
+use Rattle.cafruzek.proofs.Bounds.{extent-small, read-refusal, written-small}
+
+module _ (s : List ℕ) (r : Record) (is-r : r ≡ readAnswer s) where
+  pub read-number : r .refusal < 128
+  read-number = omega (arith, ap (λ (x : Record). x .refusal) is-r, read-refusal s)
+
+  module _ (budget : ℕ) (buffer : List ℤ) (lent : List ℕ) where
+    -- a refused reading is the answer, and nothing is changed
+    module _ (ne : r .refusal ≡ 0 → ⊥) where
+      pub unread-packed : (x : ℕ) → x ≡ refusal (r .refusal) (r .place) → x ≡ packed (judgeRecord s budget (length buffer))
+      unfolding judgeRecord pick without packed told lowTold refusal
+      unread-packed x e =
+          let t : ltb (128 + r .refusal) 128 ≡ false = le-ltb (128 + r .refusal) 128 (omega arith) in
+          rw (e, ← is-r, ne-eqb (r .refusal) 0 ne, t)
+
+      pub unread-buffer : buffer ≡ judgeRecordBuffer s budget buffer
+      unfolding judgeRecordBuffer pick
+      unread-buffer = rw (← is-r, ne-eqb (r .refusal) 0 ne)
+
+      pub unread-arranged : lent ≡ arrangedAfter (judgeRecord s budget (length buffer)) lent
+      unfolding judgeRecord pick without arrangedAfter arrangedBy
+      unread-arranged = rw (← is-r, ne-eqb (r .refusal) 0 ne)
+
+    -- else the graph is judged
+    module _ (e : r .refusal ≡ 0) where
+      pub read-packed : (x : ℕ) → x ≡ packed (judgeAnswer (r .graph) budget (length buffer)) → x ≡ packed (judgeRecord s budget (length buffer))
+      unfolding judgeRecord pick
+      read-packed x q = rw (q, ← is-r, eq-eqb (r .refusal) 0 e)
+
+      pub read-buffer : (after : List ℤ) → after ≡ judgeBuffer (r .graph) budget buffer → after ≡ judgeRecordBuffer s budget buffer
+      unfolding judgeRecordBuffer pick
+      read-buffer after q = rw (q, ← is-r, eq-eqb (r .refusal) 0 e)
+
+      pub read-arranged : (after : List ℕ) → after ≡ arrangedAfter (judgeAnswer (r .graph) budget (length buffer)) lent
+          → after ≡ arrangedAfter (judgeRecord s budget (length buffer)) lent
+      unfolding judgeRecord pick
+      read-arranged after q = rw (q, ← is-r, eq-eqb (r .refusal) 0 e)
+
+-- ---- numbers of bytes
+
+pub extent-number : (s : List ℕ) (x : Extent) → x ≡ recordAt s → x .refusal < 128
+extent-number s x e = omega (arith, ap (λ (y : Extent). y .refusal) e, extent-small s)
+
+pub extent-bytes : (s : List ℕ) (x : Extent) → x ≡ recordAt s → x .bytes ≤ 129
+extent-bytes s x e = omega (arith, ap (λ (y : Extent). y .bytes) e, extent-small s)
+
+pub size-made : (s : List ℕ) (x : Extent) → x ≡ recordAt s → (y : ℕ) → y ≡ packedExtent x → y ≡ packedExtent (recordAt s)
+size-made s x e y q = rw e at q
+
+-- the graph h is the one that the rows make
+module _ (g h : Graph) (same : h ≡ g) (out : List ℕ) where
+  module _ (x : Written) (e : x ≡ writeAnswer h out) where
+    pub written-number : x .refusal < 128
+    written-number = omega (arith, ap (λ (y : Written). y .refusal) e, written-small h out)
+
+    pub written-bytes : x .written ≤ 129
+    written-bytes = omega (arith, ap (λ (y : Written). y .written) e, written-small h out)
+
+    pub writing-made : (y : ℕ) → y ≡ packedWritten x → y ≡ packedWritten (writeAnswer g out)
+    writing-made y q = q ∙ ap packedWritten (e ∙ ap (λ (z : Graph). writeAnswer z out) same)
+
+  pub writing-buffer : (after : List ℕ) → after ≡ bufferAfter h out → after ≡ bufferAfter g out
+  writing-buffer after q = q ∙ ap (λ (z : Graph). bufferAfter z out) same

@@ -1,0 +1,27 @@
+use borrow.Author.Needs.{needs}
+use Rattle.cafruzek.proofs.RecordCases.{read-number, unread-packed, unread-buffer, unread-arranged, read-packed, read-buffer, read-arranged}
+use Rattle.cafruzek.proofs.cafruzek_judge_record.Statement.{statement}
+use Rattle.cafruzek.proofs.cafruzek_judge_record.Tie as tie
+
+read-requires : tie.Need-read-requires
+read-requires c κs = search needs
+
+refused-requires : tie.Need-refused-requires
+refused-requires c κs = search (read-number, needs)
+
+returns : tie.Need-returns
+returns c = search (unread-packed, unread-buffer, unread-arranged, needs)
+
+judge-graph-requires : tie.Need-judge-graph-requires
+judge-graph-requires c κs = search needs
+
+same-length : tie.Need-same-length
+same-length c = search needs
+
+returns-2 : tie.Need-returns-2
+returns-2 c = search (read-packed, read-buffer, read-arranged, needs)
+
+pub cafruzek-judge-record-spec : {M : Type 1} → statement M
+cafruzek-judge-record-spec =
+    tie.close
+    (tie.spec read-requires refused-requires returns judge-graph-requires same-length returns-2)

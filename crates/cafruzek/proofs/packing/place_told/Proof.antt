@@ -1,0 +1,16 @@
+use borrow.Author.Needs.{needs}
+use Rattle.cafruzek.proofs.PackingCases.{place-kept, place-capped}
+use Rattle.cafruzek.proofs.packing.place_told.Statement.{statement}
+use Rattle.cafruzek.proofs.packing.place_told.Tie as tie
+
+cast-result : tie.Need-cast-result
+cast-result c = search needs
+
+returns : tie.Need-returns
+returns c = search (place-kept, needs)
+
+returns-2 : tie.Need-returns-2
+returns-2 c = search (place-capped, needs)
+
+pub place-told-spec : {M : Type 1} → statement M
+place-told-spec = tie.close (tie.spec cast-result returns returns-2)

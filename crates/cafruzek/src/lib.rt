@@ -1,0 +1,118 @@
+// The checker as C, C++ and Rust link it. Each call works on memory that the caller lends for the call, and keeps nothing.
+// An answer is one number: bits 0..31 the steps, or the place of a refusal; 32..37 the row and 38..43 the column of the
+// standing pair; 44..52 how many literals were written; 56..63 the code: 0 none, 1 smaller, 2 cut, 128 and the number of a
+// refusal.
+use graph::Graph;
+use packing::counted;
+use packing::joined;
+use packing::refused;
+use search::Verdict;
+use search::judge;
+ghost use mathlib.Core.Path.{_≡_};
+ghost use lib.ListN.{length};
+ghost use Rattle.record.specs.Answers.{recordAt, writeAnswer, bufferAfter};
+ghost use Rattle.search.specs.Answer.{judgeAnswer, judgeBuffer};
+ghost use Rattle.cafruzek.specs.Packing.{packed, packedExtent, packedWritten};
+ghost use Rattle.cafruzek.specs.Answers.{arrangedAfter, graphOf, judgeRecord, judgeRecordBuffer};
+
+mod packing;
+
+// Judges a graph value.
+fn judge_graph<'a, 'b>(
+    graph: Graph,
+    budget: u32,
+    literals: &'a mut [i32],
+    arrangement: &'b mut [u8; 32],
+) -> u64
+    ensures { λ r. ⌜ (r ≡ packed (judgeAnswer graph budget (length (now (literals .entry))))) × (now (literals .exit) ≡ judgeBuffer graph budget (now (literals .entry))) × (now (arrangement .exit) ≡ arrangedAfter (judgeAnswer graph budget (length (now (literals .entry)))) (now (arrangement .entry))) ⌝ }
+{
+    let answer = judge(graph, budget, literals);
+    let verdict = answer.verdict;
+    match verdict {
+        Verdict::Smaller { row, column, steps } => {
+            let certificate = answer.arrangement;
+            *arrangement = certificate;
+            joined(steps, row, column, answer.literals, 1)
+        }
+        Verdict::Nothing { steps } => joined(steps, 0, 0, 0, 0),
+        Verdict::Cut { steps } => joined(steps, 0, 0, 0, 2),
+        Verdict::Refused { number, place } => refused(number, place),
+    }
+}
+
+// Judges the graph of the record that the bytes begin with; bytes after it are ignored. A reading that is refused is the
+// answer. "Smaller" writes the clause at the start of literals and the certificate to arrangement; no other answer changes
+// anything.
+#[no_mangle]
+pub extern "C" fn cafruzek_judge_record<'a, 'b, 'c>(
+    bytes: &'a [u8],
+    budget: u32,
+    literals: &'b mut [i32],
+    arrangement: &'c mut [u8; 32],
+) -> u64
+    ensures { λ r. ⌜ (r ≡ packed (judgeRecord (now (bytes .entry)) budget (length (now (literals .entry))))) × (now (literals .exit) ≡ judgeRecordBuffer (now (bytes .entry)) budget (now (literals .entry))) × (now (arrangement .exit) ≡ arrangedAfter (judgeRecord (now (bytes .entry)) budget (length (now (literals .entry)))) (now (arrangement .entry))) ⌝ }
+{
+    let found = record::read(bytes);
+    if found.refusal != 0 {
+        return refused(found.refusal, found.place);
+    }
+    let graph = found.graph;
+    judge_graph(graph, budget, literals, arrangement)
+}
+
+// Judges the graph value of these rows. It writes as cafruzek_judge_record does.
+#[no_mangle]
+pub extern "C" fn cafruzek_judge_rows<'a, 'b, 'c, 'd>(
+    order: u32,
+    edges: &'a [u32; 32],
+    unknowns: &'b [u32; 32],
+    starts: u32,
+    budget: u32,
+    literals: &'c mut [i32],
+    arrangement: &'d mut [u8; 32],
+) -> u64
+    ensures { λ r. ⌜ (r ≡ packed (judgeAnswer (graphOf order (now (edges .entry)) (now (unknowns .entry)) starts) budget (length (now (literals .entry))))) × (now (literals .exit) ≡ judgeBuffer (graphOf order (now (edges .entry)) (now (unknowns .entry)) starts) budget (now (literals .entry))) × (now (arrangement .exit) ≡ arrangedAfter (judgeAnswer (graphOf order (now (edges .entry)) (now (unknowns .entry)) starts) budget (length (now (literals .entry)))) (now (arrangement .entry))) ⌝ }
+{
+    let graph = graph_of(order, edges, unknowns, starts);
+    judge_graph(graph, budget, literals, arrangement)
+}
+
+// The graph value of these rows.
+fn graph_of<'a, 'b>(order: u32, edges: &'a [u32; 32], unknowns: &'b [u32; 32], starts: u32) -> Graph
+    ensures { λ r. ⌜ r ≡ graphOf order (now (edges .entry)) (now (unknowns .entry)) starts ⌝ }
+{
+    let e = *edges;
+    let u = *unknowns;
+    Graph {
+        order,
+        edges: e,
+        unknowns: u,
+        starts,
+    }
+}
+
+// How many bytes the record that the bytes begin with takes, or the refusal, as reading refuses.
+#[no_mangle]
+pub extern "C" fn cafruzek_record_size(bytes: &[u8]) -> u64
+    ensures { λ r. ⌜ r ≡ packedExtent (recordAt (now (bytes .entry))) ⌝ }
+{
+    let found = record::record_at(bytes);
+    counted(found.refusal, found.place, found.bytes)
+}
+
+// Writes the record of the graph value of these rows at the start of out, and nothing after it, and tells how many bytes
+// that are. A refusal changes nothing.
+#[no_mangle]
+pub extern "C" fn cafruzek_write_record<'a, 'b, 'c>(
+    order: u32,
+    edges: &'a [u32; 32],
+    unknowns: &'b [u32; 32],
+    starts: u32,
+    out: &'c mut [u8],
+) -> u64
+    ensures { λ r. ⌜ (r ≡ packedWritten (writeAnswer (graphOf order (now (edges .entry)) (now (unknowns .entry)) starts) (now (out .entry)))) × (now (out .exit) ≡ bufferAfter (graphOf order (now (edges .entry)) (now (unknowns .entry)) starts) (now (out .entry))) ⌝ }
+{
+    let graph = graph_of(order, edges, unknowns, starts);
+    let done = record::write(graph, out);
+    counted(done.refusal, done.place, done.written)
+}
