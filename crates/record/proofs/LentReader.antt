@@ -1,8 +1,4 @@
--- A reader in a local is lent to `Reader::take`, and comes back: what whoever walks such a call has before it and after it.
---     Lying l h        the reader h in the local l, what it owns, and the token of its bytes' lifetime κ
---     lends            Lying l h  ⊢ ⇛ ∃ ν δ. what `take` asks of a `&mut` to it, under the name δ and for a lifetime within κ that is made for the call, ∗ what the lender keeps
---     back             what `take` gives ∗ what the lender keeps  ⊢ ⇛ the field ∗ Lying l h, at the place after the field
--- Assumes `Given`.
+-- A reader in a local is lent to `Reader::take` and comes back: what a walk of such a call has before it and after it.
 use mathlib.Core.Path.{_≡_, refl}
 use Prim.Native.Nat.{ℕ, _<_, _^_}
 use mathlib.Core.List.{List, [], _∷_}
@@ -69,10 +65,11 @@ module _ {M : Type 1} (𝓤 : URA M) (H : Heap 𝓤) (A : Atoms 𝓤) (W : Given
   abbrev Own : Reader → Fml
   Own h = R .own h (T′.lowered h ∷ [])
 
+  -- the reader h in the local l, what it owns, and the token of its bytes' lifetime κ
   abbrev pub Lying : Reader → Item 𝓤
   Lying h = ‵ (cell h) ⊛ (‵ (Own h) ⊛ ‵ (flft κ q))
 
-  abbrev pub lying : Reader → SProp 𝓤
+  abbrev lying : Reader → SProp 𝓤
   lying h = sep 𝓤 (sem 𝓤 H A (cell h)) (sep 𝓤 (sem 𝓤 H A (Own h)) (A .lft κ q))
 
   -- the reader's cell and what it owns, as a borrow holds them
@@ -82,6 +79,7 @@ module _ {M : Type 1} (𝓤 : URA M) (H : Heap 𝓤) (A : Atoms 𝓤) (W : Given
       qed W (‵ (cell h) ∷ ‵ (Own h) ∷ []) ∵ use1 W (‵ (cellAt fullShare (R .mir) (T′.lowered h ∷ []) l 0)) (W .laws .at-raw fullShare (T′.mir erased) l 0 (T′.lowered h)) $
       fjoin ! $ fpack ! (List Val) (λ vs. fsep (cellAt fullShare (R .mir) vs l 0) (R .own h vs)) (T′.lowered h ∷ []) $ done !
 
+  -- and the other way
   stands : (h : Reader) → ent 𝓤 (sem 𝓤 H A (mem R .lies h l 0)) (sep 𝓤 (sem 𝓤 H A (cell h)) (sem 𝓤 H A (Own h)))
   unfolding partOf
   stands h =
@@ -107,6 +105,7 @@ module _ {M : Type 1} (𝓤 : URA M) (H : Heap 𝓤) (A : Atoms 𝓤) (W : Given
     abbrev kept : ℕ → GName → SProp 𝓤
     kept ν δ = sep 𝓤 (Rest 𝓤 H A W ν (PosShare·left q)) (A .lent (ν ∷ κ) (Body (mem R) l 0 δ))
 
+    -- the call's tokens and the reference are what `take` asks
     asked : (ν : ℕ) (δ : GName) → n < 2 ^ 32
         → ent 𝓤 (sep 𝓤 (A .lft (ν ∷ κ) (PosShare·left q)) (sep 𝓤 (A .lft κ (PosShare·right q)) (sem 𝓤 H A (MutRef (named 0) (ν ∷ κ) R .own (record { ptr = (l, 0); name = δ; now = h }) (vptr l 0 ∷ []))))) (Take 𝓤 H A at-mem run .pre (to ν δ))
     asked ν δ fits =
@@ -114,6 +113,7 @@ module _ {M : Type 1} (𝓤 : URA M) (H : Heap 𝓤) (A : Atoms 𝓤) (W : Given
         nothing ! $ move ! (2 ∷ 0 ∷ []) $ join ! $ move ! (1 ∷ 0 ∷ []) $ join ! $
         nothing ! $ owned ! u32 (Is u32) (uint-makes 𝓤 H A W w32) n _ (refl, fits) $ fjoin ! $ move ! (2 ∷ 0 ∷ []) $ fjoin ! $ move ! (1 ∷ 0 ∷ []) $ join ! $ frame ! $ done !
 
+    -- the reader is lent for a lifetime within κ that is made for the call, under a name δ
     pub lends : n < 2 ^ 32 → ent 𝓤 (lying h) (H .⇛ (ex 𝓤 (λ (ν : ℕ). ex 𝓤 (λ (δ : GName). sep 𝓤 (Take 𝓤 H A at-mem run .pre (to ν δ)) (kept ν δ)))))
     lends fits =
         qed W (‵ (cell h) ∷ ‵ (Own h) ∷ ‵ (flft κ q) ∷ []) ∵ updating ! $ use2 W (‵ (mem R .lies h l 0)) (lies h) $ lft-new ! tt (λ ν. move ! (1 ∷ []) $
@@ -125,6 +125,7 @@ module _ {M : Type 1} (𝓤 : URA M) (H : Heap 𝓤) (A : Atoms 𝓤) (W : Given
         at-once ! $ show ! (λ (ν′ : ℕ). ex 𝓤 (λ (δ′ : GName). sep 𝓤 (Take 𝓤 H A at-mem run .pre (to ν′ δ′)) (kept ν′ δ′))) ν $ show ! (λ (δ′ : GName). sep 𝓤 (Take 𝓤 H A at-mem run .pre (to ν δ′)) (kept ν δ′)) δ $
         move ! (0 ∷ 2 ∷ 3 ∷ []) $ use3 W (raw (Take 𝓤 H A at-mem run .pre (to ν δ))) (asked ν δ fits) $ frame ! $ done !))
 
+    -- that lifetime is ended, and the reader comes back at the place after the field
     pub back : (ν : ℕ) (δ : GName) (u : Val) → ent 𝓤 (sep 𝓤 (Take 𝓤 H A at-mem run .post (to ν δ) u) (kept ν δ)) (H .⇛ (sep 𝓤 (sem 𝓤 H A (U.the-row .own (got .found) (u ∷ []))) (lying h′)))
     back ν δ u =
         qed W (raw (Take 𝓤 H A at-mem run .post (to ν δ) u) ∷ raw (Rest 𝓤 H A W ν (PosShare·left q)) ∷ ‵ (flent (ν ∷ κ) (Body (mem R) l 0 δ)) ∷ []) ∵ updating ! $

@@ -35,7 +35,7 @@ accepted : (s : List ℕ) (place width : ℕ) → (fieldAnswer s place width) .r
 unfolding fieldAnswer
 accepted s place width h =
     let p : (leb 1 width ≡ true) × (leb width 6 ≡ true) × (leb (place + width) (8 * length s) ≡ true)
-        = passed (leb 1 width) (leb width 6) (leb (place + width) (8 * length s)) (length s) (num (bitOf s) place width) h in
+    = passed (leb 1 width) (leb width 6) (leb (place + width) (8 * length s)) (length s) (num (bitOf s) place width) h in
     record { low = leb-true _ _ (p .0); high = leb-true _ _ (p .1); within = leb-true _ _ (p .2) }
 
 -- ---- the cases in which the code answers

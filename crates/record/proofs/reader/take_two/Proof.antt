@@ -1,6 +1,5 @@
--- `reader::take_two` meets its contract: a walk of its MIR, by hand. The reader that `open` returns stands in a local, gets the place that was passed, and is lent to `take` twice (`LentReader.antt`); its place is read at the end.
--- All that the proof knows of `open` and of `take` is that each meets its contract.
--- Assumes nothing.
+-- `take_two` meets its contract: a walk of its MIR, by hand. The reader that `open` returns stands in a local, gets the place that was passed, and is lent to `take` twice (`LentReader.antt`); its place is read at the end.
+-- Of `open` and of `take` the proof knows their contracts alone.
 use mathlib.Core.Path.{_≡_, refl, ap, subst}
 use Prim.Native.Nat.{ℕ, _<_, _^_}
 use mathlib.Core.List.{List, [], _∷_}
@@ -30,7 +29,6 @@ use denote.Ref.{RefT, NamedLft, now}
 use denote.Signature.{plain}
 use denote.Slice.{sliceVal, ShrSlice, slice-vals, shr-slice-tells, shr-slice-lawful, shr-slice-copy}
 use denote.Steps.{only, owned, peeks, facts, heard, nothing}
-use denote.Struct.Declared.{Declared}
 use denote.Struct.Laws as LL
 use denote.Struct.Rest.{own-put}
 use denote.Triple.Statement.{Contract, Triple}
@@ -57,7 +55,6 @@ use Rattle.record.proofs.reader.Reader.open as opening
 use Rattle.record.proofs.reader.Reader.open.Symbol as open-def
 use Rattle.record.proofs.reader.Reader.open.Symbol.{name as #record·open}
 use Rattle.record.proofs.reader.Reader.open.Met as open-thm
-use Rattle.record.proofs.reader.Reader.take as taking
 use Rattle.record.proofs.reader.Reader.take.Symbol as take-def
 use Rattle.record.proofs.reader.Reader.take.Symbol.{name as #record·take}
 use Rattle.record.proofs.reader.Reader.take.Met as take-thm

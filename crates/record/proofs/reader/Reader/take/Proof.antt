@@ -1,6 +1,5 @@
--- `reader::Reader::take` meets its contract: a walk of its MIR, by hand. The borrow is opened, which gives the reader's cell and what the reader owns; the bytes and the place go to `field_from`; the place that it answers is stored in the cell, and the borrow is closed at the reader with that place.
--- A reader is Copy: what it owns is had twice, and of one copy what the bytes own goes to the callee. All that the proof knows of `field_from` is that it meets its contract.
--- Assumes nothing.
+-- `Reader::take` meets its contract: a walk of its MIR, by hand. The borrow is opened, which gives the reader's cell and what the reader owns; the bytes and the place go to `field_from`; the place that it answers is stored in the cell, and the borrow is closed at the reader with that place.
+-- A reader is Copy, so what it owns is had twice, and of one copy what the bytes own goes to `field_from`, of which the proof knows its contract alone.
 use mathlib.Core.Path.{_≡_, refl, ap, subst}
 use Prim.Native.Nat.{ℕ, _<_, _^_}
 use mathlib.Core.List.{List, [], _∷_}
