@@ -1,29 +1,27 @@
 -- The code of the last place is the judgement of the beginning that ends there.
-use Prim.Native.Nat.{ℕ, zero, suc, _-_, _≤_, _<_}
+use Prim.Native.Nat.{ℕ, suc, _-_, _≤_, _<_}
 use native.Mathlib.Nat.{eq-or-lt-of-le}
 use native.Mathlib.Omega.{arith}
 use mathlib.Core.Path.{_≡_, refl, sym, ap, ap₂, _∙_}
 use mathlib.Core.Logic.{_≢_, ⊎-elim}
-use mathlib.Core.List.{List, [], _∷_, _++_, List·Memᴰ}
-use lib.Dec.{eqb, ltb}
+use mathlib.Core.List.{List, [], _∷_, _++_}
+use lib.Dec.{eqb}
 use lib.ListN.{length, getD, take, List·getD-append}
 use lib.Seq.{getD-take, getD-at}
 use borrow.Author.Tests.{lt-ltb, le-ltb}
 use Rattle.laws.specs.Test.{pick}
 use Rattle.laws.specs.Each.{Each, each-first, each-rest}
-use Rattle.walk.specs.Walk.{Turn, wins, goes-on, loses, step, Outcome, won, lost, still-open, ending, turn, walk}
+use Rattle.walk.specs.Walk.{Turn, wins, goes-on, loses, Outcome, won, lost, still-open, ending, turn, walk}
 use Rattle.beginnings.specs.Search.{Judgement}
 use Rattle.beginnings.specs.Search
-use Rattle.beginnings.proofs.Follows.{length-more}
 use Rattle.graph.specs.declared.Graph.{Graph}
-use Rattle.graph.specs.Graph.{entry}
 use Rattle.graph.specs.WellFormed.{WellFormed}
 use Rattle.graph.specs.Arrangement.{at}
 use Rattle.graph.specs.Pairs.{Pair, pair, fromRow, entryAt}
 use Rattle.graph.proofs.PairLaws.{fromRow-given}
-use Rattle.search.specs.Judging.{samePair, pairOfTwo, image, judged, judgementOf}
+use Rattle.search.specs.Judging.{samePair, image, judged, judgementOf}
 use Rattle.search.specs.Code.{codeOf, turnAt, walkCode, lastCode}
-use Rattle.search.proofs.Arrangements.{entry-of-image}
+use Rattle.search.proofs.TurnCodes.{step-codes, turn-codes}
 use Rattle.search.proofs.Judgements.{one-open, rowTurn, short-turn, full-turn}
 
 empty : (b : List ℕ) → length b ≡ 0 → b ≡ []
@@ -92,24 +90,19 @@ module _ (g : Graph) (formed : WellFormed g) (b path : List ℕ) (v : ℕ) (same
   at-path : (i : ℕ) → 1 ≤ i → i ≤ suc (length b) → at path i ≡ at (b ++ (v ∷ [])) i
   at-path i l h = sym (getD-take (suc (length b)) path (i - 1) 0 (omega arith)) ∙ ap (λ (p : List ℕ). getD p (i - 1) 0) same
 
-  image-path : (k : Pair) → 1 ≤ k .row → k .row ≤ suc (length b) → 1 ≤ k .column → k .column ≤ suc (length b) → image path k ≡ image (b ++ (v ∷ [])) k
-  unfolding image
-  image-path k a c d e = ap₂ pairOfTwo (at-path (k .row) a c) (at-path (k .column) d e)
-
   turn-path : (k : Pair) → 1 ≤ k .row → k .row ≤ suc (length b) → 1 ≤ k .column → k .column ≤ suc (length b)
       → codeOf (turn samePair (entryAt g) (image (b ++ (v ∷ []))) k) ≡ turnAt (g .edges) (g .unknowns) path k
   unfolding turnAt
-  turn-path k a c d e =
-      rw (at-path (k .row) a c, at-path (k .column) d e, image-path k a c d e)
-      (ap (λ (x : ℕ). codeOf (step (entryAt g k) x (samePair (image (b ++ (v ∷ [])) k) k))) (entry-of-image g formed (b ++ (v ∷ [])) k))
+  turn-path k a c d e = rw (at-path (k .row) a c, at-path (k .column) d e) (turn-codes g formed (b ++ (v ∷ [])) k)
 
   -- the pair that comes with v
   row-path : 1 ≤ length b → codeOf (rowTurn g b v) ≡ turnAt (g .edges) (g .unknowns) path (pair 1 (suc (length b)))
-  unfolding turnAt image
+  unfolding turnAt
   row-path l =
       let last : at (b ++ (v ∷ [])) (suc (length b)) ≡ v = let e : suc (length b) - 1 ≡ length b = omega arith in rw e (getD-at b v [] 0 (length b) refl) in
       let first : at (b ++ (v ∷ [])) 1 ≡ at b 1 = List·getD-append b (v ∷ []) 0 0 l in
       rw (at-path 1 (omega arith) (omega arith), at-path (suc (length b)) (omega arith) (omega arith), last, first)
+      (step-codes g formed 1 (suc (length b)) (at b 1) v)
 
   -- ---- the code of the last place, where the beginning before it is open
 

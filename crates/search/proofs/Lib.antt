@@ -1,4 +1,5 @@
 pub mod CodeTurns
+pub mod TurnCodes
 pub mod CodeClause
 pub mod Writing
 pub mod CodeMasks

@@ -1,27 +1,39 @@
 -- What the code computes on rows and paths, by numbers: 0 goes on or open, 1 loses or lost, 2 wins or won.
 use Prim.Native.Nat.{ℕ, _-_, _≤_}
 use mathlib.Core.List.{List, [], _∷_}
+use lib.Bits.{bitOr}
 use lib.ListN.{take}
 use lib.Dec.{eqb, ltb}
 use Rattle.laws.specs.Test.{pick}
-use Rattle.walk.specs.Walk.{Turn, wins, goes-on, loses, step}
+use Rattle.laws.specs.Bit.{bit}
+use Rattle.walk.specs.Walk.{Turn, wins, goes-on, loses}
 use Rattle.beginnings.specs.Search.{Found, cut, none, first}
 use Rattle.graph.specs.declared.Graph.{Graph}
-use Rattle.graph.specs.Graph.{entryIn}
+use Rattle.graph.specs.Graph.{row}
 use Rattle.graph.specs.Arrangement.{at}
 use Rattle.graph.specs.Pairs.{Pair, pair, fromRow}
 use Rattle.search.specs.declared.explore.Explored.{Explored}
-use Rattle.search.specs.Judging.{samePair, image}
+use Rattle.search.specs.Judging.{samePair, pairOfTwo}
 
 unfoldable pub codeOf : Turn → ℕ
 codeOf goes-on = 0
 codeOf loses = 1
 codeOf wins = 2
 
+-- the entries of row u that are not 0, as a mask
+abbrev pub marksOf : List ℕ → List ℕ → ℕ → ℕ
+marksOf edges unknowns u = bitOr (row edges u) (row unknowns u)
+
+-- what the pair (i, j) does where u and v stand there, by the edges of row i and the marks of row u
+unfoldable pub turnBy : ℕ → ℕ → ℕ → ℕ → ℕ → ℕ → ℕ
+turnBy ones marks i j u v =
+    pick (eqb (bit ones (j - 1)) (bit marks (v - 1))) 0
+    (pick (eqb (bit ones (j - 1)) 1) 2 (pick (samePair (pairOfTwo u v) (pair i j)) 0 1))
+
 -- what pair k does under the path p
 unfoldable pub turnAt : List ℕ → List ℕ → List ℕ → Pair → ℕ
 turnAt edges unknowns p k =
-    codeOf (step (entryIn edges unknowns (k .row) (k .column)) (entryIn edges unknowns (at p (k .row)) (at p (k .column))) (samePair (image p k) k))
+    turnBy (row edges (k .row)) (marksOf edges unknowns (at p (k .row))) (k .row) (k .column) (at p (k .row)) (at p (k .column))
 
 -- the first of the pairs that does not go on, or 0
 unfoldable pub walkCode : (Pair → ℕ) → List Pair → ℕ
