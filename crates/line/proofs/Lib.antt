@@ -1,0 +1,4 @@
+pub mod Pages
+pub mod Decimals
+pub mod Signs
+pub mod Commas
