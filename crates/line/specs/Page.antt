@@ -1,7 +1,7 @@
 -- A buffer that is being written, byte after byte, as far as there is room.
 use Prim.Native.Nat.{ℕ, _+_}
-use mathlib.Core.List.{List, [], _∷_}
-use lib.ListN.{length, set}
+use mathlib.Core.List.{List, [], _∷_, _++_}
+use lib.ListN.{length, take, drop, set}
 use lib.Dec.{ltb}
 use Rattle.laws.specs.Test.{pick}
 
@@ -21,3 +21,7 @@ pushed p b = pick (ltb (p .next) (length (p .text))) (page (set (p .text) (p .ne
 unfoldable pub written : Page → List ℕ → Page
 written p [] = p
 written p (b ∷ bs) = written (pushed p b) bs
+
+-- a text at the start of a buffer, as much of it as there is room for; what comes after it stays
+unfoldable pub poured : List ℕ → List ℕ → List ℕ
+poured text buffer = take (length buffer) text ++ drop (length text) buffer

@@ -2,14 +2,9 @@
 use Prim.Native.Nat.{ℕ}
 use Prim.Native.Char.{code}
 use Prim.Native.String.{String, [] as none, _∷_ as _then_}
-use mathlib.Core.Path.{_≡_, refl}
 use mathlib.Core.List.{List, [], _∷_}
 
 -- the codes of the characters of a text, which are its bytes where each is below 128
 unfoldable pub bytesOf : String → List ℕ
 bytesOf none = []
 bytesOf (c then s) = code c ∷ bytesOf s
-
-try : bytesOf "none " ≡ 110 ∷ 111 ∷ 110 ∷ 101 ∷ 32 ∷ []
-unfolding bytesOf
-try = refl

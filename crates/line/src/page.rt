@@ -26,6 +26,3 @@ pub fn put(out: &mut [u8], at: usize, text: &[u8]) -> usize
     next
 }
 
-pub fn trial(out: &mut [u8]) -> usize {
-    put(out, 0, b"none ")
-}
