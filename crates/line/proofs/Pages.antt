@@ -32,13 +32,12 @@ written-append p (x ∷ xs) ys = written-append (pushed p x) xs ys
 
 -- ---- a loop over a text
 
-pub text-starts : (out s : List ℕ) (at : ℕ) → written (page out at) (drop 0 s) ≡ written (page out at) s
-text-starts out s at = refl
-
+-- one byte more
 pub text-turns : (p : Page) (s out out′ : List ℕ) (at at′ i : ℕ) → written (page out at) (drop i s) ≡ written p s → i < length s → page out′ at′ ≡ pushed (page out at) (getD s i 0) → written (page out′ at′) (drop (i + 1) s) ≡ written p s
 unfolding written
 text-turns p s out out′ at at′ i h l e = rw (add-one i, e) (rw (drop-cons s i 0 l) at h)
 
+-- all of them
 pub text-done : (p : Page) (s out : List ℕ) (at i : ℕ) → written (page out at) (drop i s) ≡ written p s → i ≤ length s → length s ≤ i → page out at ≡ written p s
 unfolding written
 text-done p s out at i h a b =

@@ -3,3 +3,4 @@ pub mod Page
 pub mod Decimal
 pub mod Fields
 pub mod Line
+pub mod Shown

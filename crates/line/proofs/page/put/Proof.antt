@@ -3,7 +3,7 @@ use Prim.Native.Nat.{_-_, _≤_}
 use mathlib.Core.Path.{_≡_}
 use lib.ListN.{length, drop}
 use Rattle.line.specs.Page.{page, written}
-use Rattle.line.proofs.Pages.{text-starts, text-turns, text-done}
+use Rattle.line.proofs.Pages.{text-turns, text-done}
 use Rattle.line.proofs.page.put.Statement.{statement}
 use Rattle.line.proofs.page.put.Tie as tie
 
@@ -14,7 +14,7 @@ abbrev μ-loop : tie.MeasureT-loop
 μ-loop out₀ at text next₀ i₀ out next i = length text - i
 
 loop-holds : tie.Need-loop-holds Inv-loop μ-loop
-loop-holds c = search (text-starts, needs)
+loop-holds c = search needs
 
 shared-slice-read-push : tie.Need-shared-slice-read-push Inv-loop μ-loop
 shared-slice-read-push c = search needs
