@@ -64,7 +64,6 @@ word-fits s r b j n h e l k = lt-of-lt-of-le (word-grows s r b j h e) (pow-mono 
 -- ---- through, and counts
 
 pub through-is : (p q : List ℕ) (i v : ℕ) → v ≡ at q i → getD p (v - 1) 0 ≡ through p q i
-unfolding through
 through-is p q i v e = ap (λ (k : ℕ). getD p (k - 1) 0) e
 
 pub composed-done : (p q : List ℕ) (m n : ℕ) (out : List ℕ) → out ≡ placed (through p q) m → m ≤ n → n ≤ m → out ≡ composed n p q

@@ -90,7 +90,6 @@ block-turns starts i s h =
 -- ---- arrangements
 
 pub differs-is : (p : List ℕ) (i j x y : ℕ) → x ≡ at p j → y ≡ at p i → not (eqb x y) ≡ differs p i j
-unfolding differs
 differs-is p i j x y a b = ap₂ (λ (m n : ℕ). not (eqb m n)) a b
 
 pub new-done : (p : List ℕ) (i m : ℕ) → allUpTo (differs p i) m ≡ true → m ≤ i - 1 → i - 1 ≤ m → true ≡ isNew p i

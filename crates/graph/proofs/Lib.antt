@@ -13,3 +13,4 @@ pub mod Settings
 pub mod Relabelling
 pub mod Composing
 pub mod CountLaws
+pub mod Blocks

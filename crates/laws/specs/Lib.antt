@@ -1,6 +1,8 @@
 pub mod Test
 pub mod Bit
 pub mod UpTo
+pub mod Num
+pub mod First
 pub mod Loops
 pub mod Compared
 pub mod TestLaws

@@ -20,11 +20,11 @@ use Rattle.search.specs.Judging.{pairOfTwo, image}
 use Rattle.search.proofs.Arrangements.{entry-of-two}
 
 -- the smaller vertex comes first
-two-rising : (u v : ℕ) → u < v → pairOfTwo u v ≡ pair u v
+pub two-rising : (u v : ℕ) → u < v → pairOfTwo u v ≡ pair u v
 unfolding pairOfTwo
 two-rising u v l = pick-true (ltb u v) (pair u v) (pair v u) (lt-ltb u v l)
 
-two-falling : (u v : ℕ) → v ≤ u → pairOfTwo u v ≡ pair v u
+pub two-falling : (u v : ℕ) → v ≤ u → pairOfTwo u v ≡ pair v u
 unfolding pairOfTwo
 two-falling u v l = pick-false (ltb u v) (pair u v) (pair v u) (le-ltb u v l)
 

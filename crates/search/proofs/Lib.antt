@@ -1,4 +1,6 @@
 pub mod CodeTurns
+pub mod CodeClause
+pub mod Writing
 pub mod CodeMasks
 pub mod MaskLaws
 pub mod Arrangements
@@ -19,3 +21,5 @@ pub mod Smallest
 pub mod Survival
 pub mod CodeCertificate
 pub mod Completing
+pub mod ClauseByKinds
+pub mod CodeJudge

@@ -76,7 +76,7 @@ pub record ComesBefore (n : ℕ) (j k : Pair) : Type 0 where
   pub smaller : numberOf n j < numberOf n k
 
 module _ (n : ℕ) (k : Pair) (before after : List Pair) (split : pairs n ≡ before ++ k ∷ after) where
-  stands-before : (j : Pair) → List·Memᴰ j before → ComesBefore n j k
+  pub stands-before : (j : Pair) → List·Memᴰ j before → ComesBefore n j k
   stands-before j m =
       record {
         between = pairs-given n j (rw split (Memᴰ·append-left (k ∷ after) m));
@@ -91,7 +91,7 @@ module _ (n : ℕ) (k : Pair) (before after : List Pair) (split : pairs n ≡ be
       split ∙ ap (λ (r : List Pair). before ++ k ∷ r) (s .2) ∙ sym (append-assoc before (k ∷ s .0) (j ∷ s .1)) in
       omega (arith, before-smaller n j (before ++ k ∷ s .0) (s .1) whole k (Memᴰ·append-right before (List·Memᴰ·head refl)))
 
-  before-stands : (j : Pair) → ComesBefore n j k → List·Memᴰ j before
+  pub before-stands : (j : Pair) → ComesBefore n j k → List·Memᴰ j before
   before-stands j c =
       ⊎-elim (λ (m : List·Memᴰ j before). m)
       (λ (m : List·Memᴰ j (k ∷ after)).

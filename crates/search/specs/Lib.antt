@@ -3,3 +3,4 @@ pub mod Answer
 pub mod Worked
 pub mod Code
 pub mod Masks
+pub mod Clauses

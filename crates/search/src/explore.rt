@@ -72,7 +72,7 @@ pub fn explore<'a, 'b>(
     path: &'b mut [u8; 32],
 ) -> Explored
     requires { ⌜ (length (now path) ≡ 32) × (wellFormed (graphIn n (now edges) (now unknowns) starts) ≡ true) ⌝ }
-    ensures { λ r. ⌜ (foundBy r (now (path .exit)) ≡ found (graphIn n (now (edges .entry)) (now (unknowns .entry)) starts) budget) × (drop n (now (path .exit)) ≡ drop n (now (path .entry))) ⌝ }
+    ensures { λ r. ⌜ (foundBy r (now (path .exit)) ≡ found (graphIn n (now (edges .entry)) (now (unknowns .entry)) starts) budget) × (drop n (now (path .exit)) ≡ drop n (now (path .entry))) × (r .depth ≤ n) ⌝ }
 {
     let blocks = block_masks(n, starts);
     let mut untried = [0u32; 32];

@@ -1,21 +1,138 @@
 // Judging a partially drawn graph: does some permitted renumbering make it smaller in dictionary order?
+ghost use mathlib.Core.Path.{_≡_};
+ghost use mathlib.Core.Bool.{true};
+ghost use mathlib.Core.List.{_++_};
+ghost use Prim.Native.Nat.{_+_, _-_, _≤_};
+ghost use lib.ListN.{length, take, drop, replicate};
+ghost use lib.Dec.{leb};
+ghost use Rattle.beginnings.specs.Beginning.{Beginning};
+ghost use Rattle.beginnings.specs.Search.{won};
+ghost use Rattle.graph.specs.Graph.{blockOf};
+ghost use Rattle.graph.specs.Pairs.{pairCount};
+ghost use Rattle.graph.specs.WellFormed.{wellFormed};
+ghost use Rattle.search.specs.Judging.{judged, found, clauseOf, certificateOf};
+ghost use Rattle.search.specs.Answer.{without, smaller, answerFor, atStart, judgeAnswer, judgeBuffer};
 
 mod certificate;
+mod clause;
 mod explore;
 mod masks;
 mod turns;
 
-// Steps are the beginnings tried.
+use certificate::complete;
+use certificate::standing;
+use clause::write_clause;
+use explore::explore;
+use graph::Graph;
+
+// How a judgement ended. Steps are the beginnings tried.
 pub enum Verdict {
+    // Some permitted renumbering is smaller: the standing pair of the first certificate.
     Smaller { row: u32, column: u32, steps: u32 },
+    // No permitted arrangement has a standing pair.
     Nothing { steps: u32 },
+    // The budget was used up first.
     Cut { steps: u32 },
+    // The graph or the buffer is refused.
     Refused { number: u32, place: usize },
 }
 
-// The verdict, the certificate (zeros except for Smaller), and how many literals were written.
+// A verdict, with the first certificate (zeros except for Smaller) and how many literals of its clause were written.
 pub struct Judged {
     pub verdict: Verdict,
     pub arrangement: [u8; 32],
     pub literals: usize,
+}
+
+// A verdict with nothing beside it.
+fn bare(verdict: Verdict) -> Judged
+    ensures { λ r. ⌜ r ≡ without verdict ⌝ }
+{
+    Judged {
+        verdict,
+        arrangement: [0u8; 32],
+        literals: 0,
+    }
+}
+
+// Does a buffer of that length hold a literal for each pair?
+fn has_room(n: u32, room: usize) -> bool
+    requires { ⌜ (1 ≤ n) × (n ≤ 32) ⌝ }
+    ensures { λ r. ⌜ r ≡ leb (pairCount n) room ⌝ }
+{
+    let pairs = (n * (n - 1) / 2) as usize;
+    pairs <= room
+}
+
+// The answer where the path's first places are the first won beginning: its certificate, and the clause written.
+fn certify(graph: Graph, start: [u8; 32], depth: u32, steps: u32, literals: &mut [i32]) -> Judged
+    requires { ⌜ (wellFormed graph ≡ true) × (pairCount (graph .order) ≤ length (now literals)) × (depth ≤ graph .order) × Beginning (graph .order) (blockOf (graph .starts)) (take depth start) × (judged graph (take depth start) ≡ won) × (drop (graph .order) start ≡ replicate (32 - graph .order) 0) ⌝ }
+    ensures { λ r. ⌜ (r ≡ smaller graph (certificateOf graph (take depth start)) steps) × (now (literals .exit) ≡ clauseOf graph (certificateOf graph (take depth start)) ++ drop (length (clauseOf graph (certificateOf graph (take depth start)))) (now (literals .entry))) ⌝ }
+{
+    let n = graph.order;
+    let starts = graph.starts;
+    let mut path = start;
+    complete(n, starts, depth, &mut path);
+    let at = standing(&graph.edges, &graph.unknowns, &path, n);
+    let row = at.row;
+    let column = at.column;
+    let count = write_clause(
+        &graph.edges,
+        &graph.unknowns,
+        &path,
+        n,
+        starts,
+        row,
+        column,
+        literals,
+    );
+    Judged {
+        verdict: Verdict::Smaller { row, column, steps },
+        arrangement: path,
+        literals: count,
+    }
+}
+
+// The answer for a well-formed graph and a buffer with room.
+fn judge_formed(graph: Graph, budget: u32, literals: &mut [i32]) -> Judged
+    requires { ⌜ (wellFormed graph ≡ true) × (pairCount (graph .order) ≤ length (now literals)) ⌝ }
+    ensures { λ r. ⌜ (r ≡ answerFor graph budget (found graph budget)) × (now (literals .exit) ≡ atStart (r .verdict) (clauseOf graph (r .arrangement)) (now (literals .entry))) ⌝ }
+{
+    let mut path = [0u8; 32];
+    let end = explore(
+        graph.order,
+        &graph.edges,
+        &graph.unknowns,
+        graph.starts,
+        budget,
+        &mut path,
+    );
+    let kind = end.kind;
+    if kind == 1 {
+        return certify(graph, path, end.depth, end.steps, literals);
+    }
+    if kind == 0 {
+        return bare(Verdict::Nothing { steps: end.steps });
+    }
+    bare(Verdict::Cut { steps: budget })
+}
+
+// Judges the graph within the budget. A clause is written at the buffer's start where the verdict is Smaller; every other
+// answer leaves the buffer. The buffer needs room for a literal for each pair.
+pub fn judge(graph: Graph, budget: u32, literals: &mut [i32]) -> Judged
+    ensures { λ r. ⌜ (r ≡ judgeAnswer graph budget (length (now (literals .entry)))) × (now (literals .exit) ≡ judgeBuffer graph budget (now (literals .entry))) ⌝ }
+{
+    if graph.is_well_formed() {
+        if has_room(graph.order, literals.len()) {
+            return judge_formed(graph, budget, literals);
+        }
+        return bare(Verdict::Refused {
+            number: 5,
+            place: 0,
+        });
+    }
+    bare(Verdict::Refused {
+        number: 8,
+        place: 0,
+    })
 }

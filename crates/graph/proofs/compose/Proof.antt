@@ -26,14 +26,14 @@ arranged-requires c κs = search needs
 
 returns : tie.Need-returns
 unfolding composeAnswer
-returns c = search (refused, passed, arranged-is, first-held, needs)
+returns c = search (passed, arranged-is, first-held, needs)
 
 unarranged-requires : tie.Need-unarranged-requires
 unarranged-requires c κs = search needs
 
 returns-2 : tie.Need-returns-2
 unfolding composeAnswer
-returns-2 c = search (refused, passed, arranged-is, first-held, needs)
+returns-2 c = search (refused, passed, first-held, needs)
 
 unarranged-requires-2 : tie.Need-unarranged-requires-2
 unarranged-requires-2 c κs = search needs
@@ -47,7 +47,7 @@ unarranged-requires-3 c κs = search needs
 
 returns-4 : tie.Need-returns-4
 unfolding composeAnswer
-returns-4 c = search (refused, passed, arranged-is, first-held, needs)
+returns-4 c = search (refused, needs)
 
 pub compose-spec : {M : Type 1} → statement M
 compose-spec =

@@ -19,21 +19,21 @@ arranged-requires c κs = search needs
 
 returns : tie.Need-returns
 unfolding invertAnswer
-returns c = search (refused, passed, arranged-is, needs)
+returns c = search (passed, arranged-is, needs)
 
 unarranged-requires : tie.Need-unarranged-requires
 unarranged-requires c κs = search needs
 
 returns-2 : tie.Need-returns-2
 unfolding invertAnswer
-returns-2 c = search (refused, passed, arranged-is, needs)
+returns-2 c = search (refused, passed, needs)
 
 unarranged-requires-2 : tie.Need-unarranged-requires-2
 unarranged-requires-2 c κs = search needs
 
 returns-3 : tie.Need-returns-3
 unfolding invertAnswer
-returns-3 c = search (refused, passed, arranged-is, needs)
+returns-3 c = search (refused, needs)
 
 pub invert-spec : {M : Type 1} → statement M
 invert-spec =

@@ -12,7 +12,7 @@ is-vertex-requires-2 c κs = search needs
 
 returns : tie.Need-returns
 unfolding isPair
-returns c = search (first-failed, first-held, needs)
+returns c = search (first-held, needs)
 
 returns-2 : tie.Need-returns-2
 unfolding isPair
@@ -20,7 +20,7 @@ returns-2 c = search (first-failed, first-held, needs)
 
 returns-3 : tie.Need-returns-3
 unfolding isPair
-returns-3 c = search (first-failed, first-held, needs)
+returns-3 c = search (first-failed, needs)
 
 pub is-pair-spec : {M : Type 1} → statement M
 is-pair-spec =

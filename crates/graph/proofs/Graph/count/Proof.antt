@@ -28,11 +28,11 @@ sub-t13 c = search (unknowns-within, needs)
 
 returns : tie.Need-returns
 unfolding countAnswer
-returns c = search (refused, passed, totals-are, needs)
+returns c = search (passed, totals-are, needs)
 
 returns-2 : tie.Need-returns-2
 unfolding countAnswer
-returns-2 c = search (refused, passed, totals-are, needs)
+returns-2 c = search (refused, needs)
 
 pub count-spec : {M : Type 1} → statement M
 count-spec =

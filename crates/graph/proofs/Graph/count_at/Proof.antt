@@ -16,15 +16,15 @@ ones-at-requires c κs = search (vertex-low, vertex-most, needs)
 
 returns : tie.Need-returns
 unfolding degreeAnswer
-returns c = search (refused, passed, degree-is, needs)
+returns c = search (passed, degree-is, needs)
 
 returns-2 : tie.Need-returns-2
 unfolding degreeAnswer
-returns-2 c = search (refused, passed, degree-is, needs)
+returns-2 c = search (refused, passed, needs)
 
 returns-3 : tie.Need-returns-3
 unfolding degreeAnswer
-returns-3 c = search (refused, passed, degree-is, needs)
+returns-3 c = search (refused, needs)
 
 pub count-at-spec : {M : Type 1} → statement M
 count-at-spec =

@@ -16,15 +16,15 @@ entry-in-requires c κs = (search row-low, search row-most, search column-low, s
 
 returns : tie.Need-returns
 unfolding readAnswer
-returns c = search (refused, passed, reading-is, needs)
+returns c = search (passed, reading-is, needs)
 
 returns-2 : tie.Need-returns-2
 unfolding readAnswer
-returns-2 c = search (refused, passed, reading-is, needs)
+returns-2 c = search (refused, passed, needs)
 
 returns-3 : tie.Need-returns-3
 unfolding readAnswer
-returns-3 c = search (refused, passed, reading-is, needs)
+returns-3 c = search (refused, needs)
 
 pub read-spec : {M : Type 1} → statement M
 read-spec =

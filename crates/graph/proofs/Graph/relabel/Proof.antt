@@ -22,7 +22,7 @@ answer-requires c κs = search needs
 
 returns : tie.Need-returns
 unfolding relabelAnswer
-returns c = search (refused, passed, relabelled-is, needs)
+returns c = search (passed, relabelled-is, needs)
 
 none-requires : tie.Need-none-requires
 none-requires c κs = search needs
@@ -42,7 +42,7 @@ answer-requires-3 c κs = search needs
 
 returns-3 : tie.Need-returns-3
 unfolding relabelAnswer
-returns-3 c = search (refused, passed, refused-graph, needs)
+returns-3 c = search (refused, refused-graph, needs)
 
 pub relabel-spec : {M : Type 1} → statement M
 relabel-spec =

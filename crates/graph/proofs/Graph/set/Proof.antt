@@ -22,28 +22,28 @@ answer-requires c κs = search needs
 
 returns : tie.Need-returns
 unfolding setAnswer
-returns c = search (refused, passed, set-is, value-held, value-failed, needs)
+returns c = search (passed, set-is, value-held, needs)
 
 answer-requires-2 : tie.Need-answer-requires-2
 answer-requires-2 c κs = search needs
 
 returns-2 : tie.Need-returns-2
 unfolding setAnswer
-returns-2 c = search (refused, passed, set-is, value-held, value-failed, needs)
+returns-2 c = search (refused, passed, value-failed, needs)
 
 answer-requires-3 : tie.Need-answer-requires-3
 answer-requires-3 c κs = search needs
 
 returns-3 : tie.Need-returns-3
 unfolding setAnswer
-returns-3 c = search (refused, passed, set-is, value-held, value-failed, needs)
+returns-3 c = search (refused, passed, needs)
 
 answer-requires-4 : tie.Need-answer-requires-4
 answer-requires-4 c κs = search needs
 
 returns-4 : tie.Need-returns-4
 unfolding setAnswer
-returns-4 c = search (refused, passed, set-is, value-held, value-failed, needs)
+returns-4 c = search (refused, needs)
 
 pub set-spec : {M : Type 1} → statement M
 set-spec =

@@ -34,7 +34,7 @@ array-read-mask : tie.Need-array-read-mask Inv-loop μ-loop
 array-read-mask c = search needs
 
 returns : tie.Need-returns Inv-loop μ-loop
-returns c = (search ends-none, search path-kept)
+returns c = (search ends-none, search path-kept, search needs)
 
 sub-depth : tie.Need-sub-depth Inv-loop μ-loop
 sub-depth c = search needs
@@ -55,7 +55,7 @@ loop-again : tie.Need-loop-again Inv-loop μ-loop
 loop-again c = search climbs
 
 returns-2 : tie.Need-returns-2 Inv-loop μ-loop
-returns-2 c = (search ends-cut, search path-kept)
+returns-2 c = (search ends-cut, search path-kept, search needs)
 
 lowest-requires : tie.Need-lowest-requires Inv-loop μ-loop
 lowest-requires c κs = search needs
@@ -94,7 +94,7 @@ returns-3 : tie.Need-returns-3 Inv-loop μ-loop
 returns-3 c =
     let tried = c .before .before .before in
     let turn = tried .before .before .before .before in
-    (ends-first _ _ _ _ _ _ _ _ _ _ _ _ (turn .before .loop .inv) (turn .if1 .left) _ (tried .before .before .lowest .ensures) _ (tried .stored .ensures) _ (c .before .last-turn .ensures) (tried .before .before .before .if3 .left) (c .if4 .taken), search longer-kept)
+    (ends-first _ _ _ _ _ _ _ _ _ _ _ _ (turn .before .loop .inv) (turn .if1 .left) _ (tried .before .before .lowest .ensures) _ (tried .stored .ensures) _ (c .before .last-turn .ensures) (tried .before .before .before .if3 .left) (c .if4 .taken), search longer-kept, search needs)
 
 power-requires-2 : tie.Need-power-requires-2 Inv-loop μ-loop
 power-requires-2 c κs = search (low-place, needs)

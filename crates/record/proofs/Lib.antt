@@ -1,0 +1,15 @@
+pub mod Cases
+pub mod BitLaws
+pub mod FieldLaws
+pub mod SizeLaws
+pub mod PassLaws
+pub mod RecordCases
+pub mod MarkLaws
+pub mod Accepted
+pub mod PairSearch
+pub mod WriteLaws
+pub mod WriteCases
+pub mod RecordBits
+pub mod WrittenRead
+pub mod ReadWritten
+pub mod Refused

@@ -1,0 +1,53 @@
+// Where the parts of a record stand and how long it is, for an order in range.
+ghost use mathlib.Core.Path.{_≡_};
+ghost use Prim.Native.Nat.{_*_, _≤_, _<_};
+ghost use Rattle.graph.specs.Pairs.{pairCount, number};
+ghost use Rattle.record.specs.Layout.{entryPlace, bitCount, byteCount};
+
+// The product of two small numbers.
+fn product(a: u32, b: u32) -> u32
+    requires { ⌜ (a ≤ 64) × (b ≤ 64) ⌝ }
+    ensures { λ r. ⌜ (r ≡ a * b) × (r ≤ 4096) ⌝ }
+{
+    a * b
+}
+
+// How many pairs there are.
+pub(crate) fn pair_count(order: u32) -> u32
+    requires { ⌜ (1 ≤ order) × (order ≤ 32) ⌝ }
+    ensures { λ r. ⌜ (r ≡ pairCount order) × (r ≤ 2048) ⌝ }
+{
+    product(order, order - 1) / 2
+}
+
+// How many bits come before the padding.
+pub(crate) fn bit_count(order: u32) -> usize
+    requires { ⌜ (1 ≤ order) × (order ≤ 32) ⌝ }
+    ensures { λ r. ⌜ (r ≡ bitCount order) × (r ≤ 5000) ⌝ }
+{
+    (6 + (order - 1) + 2 * pair_count(order)) as usize
+}
+
+// How many bytes there are in all.
+pub(crate) fn byte_count(order: u32) -> usize
+    requires { ⌜ (1 ≤ order) × (order ≤ 32) ⌝ }
+    ensures { λ r. ⌜ (r ≡ byteCount order) × (r ≤ 1000) ⌝ }
+{
+    (bit_count(order) + 7) / 8
+}
+
+// The place of the entry of the pair with number m.
+pub(crate) fn entry_place(order: u32, m: u32) -> usize
+    requires { ⌜ (1 ≤ order) × (order ≤ 32) × (1 ≤ m) × (m ≤ 4096) ⌝ }
+    ensures { λ r. ⌜ (r ≡ entryPlace order m) × (r ≤ 10000) ⌝ }
+{
+    (6 + (order - 1) + 2 * (m - 1)) as usize
+}
+
+// The number of the pair (i, j).
+pub(crate) fn number_of(order: u32, i: u32, j: u32) -> u32
+    requires { ⌜ (1 ≤ i) × (i < j) × (j ≤ order) × (order ≤ 32) ⌝ }
+    ensures { λ r. ⌜ (r ≡ number order i j) × (1 ≤ r) × (r ≤ 4096) ⌝ }
+{
+    product(i - 1, 2 * order - i) / 2 + (j - i)
+}

@@ -1,0 +1,227 @@
+-- What the code of judging comes to.
+use Prim.Native.Nat.{ℕ, zero, suc, _+_, _-_, _*_, _/_, _^_, _≤_, _<_}
+use native.Mathlib.Nat.{lt-of-le-of-lt, mul-le-mul, div-le-self}
+use native.Mathlib.Omega.{arith}
+use mathlib.Core.Path.{_≡_, refl, sym, ap, ap₂, subst, _∙_}
+use mathlib.Core.Logic.{_≢_}
+use mathlib.Core.Bool.{Bool, true, false}
+use mathlib.Core.List.{List, [], _∷_, _++_}
+use lib.Dec.{leb, eqb, lit<}
+use lib.IntN.{ℤ}
+use lib.ListN.{length, take, drop, replicate}
+use lib.Seq.{length-take-le}
+use borrow.Author.Tests.{eq-eqb, ne-eqb, leb-true}
+use Rattle.laws.specs.Test.{pick, unless}
+use Rattle.laws.specs.TestLaws.{refused, passed}
+use Rattle.laws.specs.Each.{Each, each-first, each-rest}
+use Rattle.walk.specs.Walk.{Turn, wins, goes-on, loses, step, Outcome, won, lost, still-open, ending, turn, walk}
+use Rattle.beginnings.specs.Beginning.{Beginning}
+use Rattle.beginnings.specs.Search.{cut, none, first}
+use Rattle.beginnings.specs.Search
+use Rattle.beginnings.specs.Certificate.{completed}
+use Rattle.beginnings.proofs.Completed.{completed-whole}
+use Rattle.beginnings.proofs.FirstCertificate.{found-reached}
+use Rattle.graph.specs.declared.Graph.{Graph}
+use Rattle.graph.specs.Graph.{blockOf}
+use Rattle.graph.specs.WellFormed.{WellFormed, wellFormed}
+use Rattle.graph.specs.Arrangement.{at, Permitted, isPermitted}
+use Rattle.graph.specs.Pairs.{Pair, pair, pairs, pairCount, entryAt}
+use Rattle.graph.proofs.Formed.{formed}
+use Rattle.graph.proofs.Permits.{permitted-tested}
+use Rattle.search.specs.declared.Verdict.{Verdict}
+use Rattle.search.specs.declared.Verdict.the-variants.{Smaller, Nothing, Cut, Refused}
+use Rattle.search.specs.declared.explore.Explored.{Explored}
+use Rattle.search.specs.declared.Judged.{Judged}
+use Rattle.search.specs.Judging.{samePair, image, walkAll, clauseOf, judged, judgementOf, judgedOn, found, padded, certificateOf}
+use Rattle.search.specs.Answer.{without, standingPair, smaller, answerFor, judgeAnswer, atStart, judgeBuffer}
+use Rattle.search.specs.Code.{codeOf, turnAt, firstPair, Within, foundBy}
+use Rattle.search.proofs.Arrangements.{entry-of-image, padded-permitted}
+use Rattle.search.proofs.Judgements.{of-won}
+use Rattle.search.proofs.Certificates.{certificate-walk}
+
+pub product-fits : (n : ℕ) → n ≤ 32 → n * (n - 1) < 2 ^ 32
+product-fits n h = lt-of-le-of-lt (mul-le-mul {n₁ = n} {m₁ = n - 1} {n₂ = 32} {m₂ = 32} h (omega arith)) (lit< tt)
+
+pub pairs-fit : (n : ℕ) → n ≤ 32 → n * (n - 1) / 2 < 2 ^ 64
+pairs-fit n h = lt-of-le-of-lt (div-le-self (n * (n - 1)) 2) (lt-of-le-of-lt (mul-le-mul {n₁ = n} {m₁ = n - 1} {n₂ = 32} {m₂ = 32} h (omega arith)) (lit< tt))
+
+-- ---- the pair at which a walk is won is the first that does not go on
+
+by-turn : (t : Turn) (j : Pair) (rest : Outcome Pair) (k other : Pair) → ending t j rest ≡ won k → (rest ≡ won k → other ≡ k) → pick (eqb (codeOf t) 0) other j ≡ k
+unfolding ending codeOf pick
+by-turn wins j rest k other e h = cc
+by-turn goes-on j rest k other e h = h e
+by-turn loses j rest k other e h = cc
+
+first-won : (v : Pair → ℕ) (img : Pair → Pair) (t : Pair → ℕ) (ks : List Pair) (k : Pair) → Each (λ j. codeOf (turn samePair v img j) ≡ t j) ks → walk samePair v img ks ≡ won k
+    → firstPair t ks ≡ k
+unfolding walk firstPair
+first-won v img t [] k h e = cc
+first-won v img t (j ∷ ks) k h e =
+    ap (λ (c : ℕ). pick (eqb c 0) (firstPair t ks) j) (sym (each-first (λ i. codeOf (turn samePair v img i) ≡ t i) h))
+    ∙ by-turn (turn samePair v img j) j (walk samePair v img ks) k (firstPair t ks) e (first-won v img t ks k (each-rest (λ i. codeOf (turn samePair v img i) ≡ t i) h))
+
+turn-codes : (g : Graph) → WellFormed g → (p : List ℕ) (k : Pair) → codeOf (turn samePair (entryAt g) (image p) k) ≡ turnAt (g .edges) (g .unknowns) p k
+unfolding turnAt
+turn-codes g w p k = ap (λ (x : ℕ). codeOf (step (entryAt g k) x (samePair (image p k) k))) (entry-of-image g w p k)
+
+pub taken-long : (g : Graph) → wellFormed g ≡ true → (start : List ℕ) (depth : ℕ) → length start ≡ 32 → depth ≤ g .order → length (take depth start) ≡ depth
+taken-long g w start depth l d = length-take-le depth start (omega (arith, formed g w .order-high))
+
+module _ (g : Graph) (w : wellFormed g ≡ true) (start : List ℕ) (depth : ℕ) (l : length start ≡ 32) (d : depth ≤ g .order) (b : Beginning (g .order) (blockOf (g .starts)) (take depth start))
+    (path : List ℕ) (p : path ≡ padded (completed (g .order) (blockOf (g .starts)) (g .order - depth) (take depth start))) where
+  is-formed : WellFormed g
+  is-formed = formed g w
+
+  is-certificate : path ≡ certificateOf g (take depth start)
+  unfolding certificateOf
+  is-certificate = p ∙ ap (λ (m : ℕ). padded (completed (g .order) (blockOf (g .starts)) (g .order - m) (take depth start))) (sym (taken-long g w start depth l d))
+
+  is-permitted : Permitted (g .order) (g .starts) path
+  unfolding certificateOf
+  is-permitted =
+      let c = completed-whole (g .order) (blockOf (g .starts)) (take depth start) b in
+      rw is-certificate (padded-permitted (g .order) (g .starts) (is-formed .order-high) (completed (g .order) (blockOf (g .starts)) (g .order - length (take depth start)) (take depth start)) (c .beginning) (c .whole))
+
+  pub certificate-tested : isPermitted (g .order) (g .starts) path ≡ true
+  certificate-tested = permitted-tested (g .order) (g .starts) path is-permitted
+
+  pub certificate-within : Within (g .order) path
+  certificate-within =
+      let r = is-permitted .reordering in
+      record { low = r .low; high = λ i a c. omega (arith, r .high i a c, is-formed .order-high) }
+
+  module _ (j : judged g (take depth start) ≡ Search.won) (row column : ℕ) (s : pair row column ≡ firstPair (turnAt (g .edges) (g .unknowns) path) (pairs (g .order))) where
+    won-walk : (k : Pair) × (walkAll g path ≡ won k)
+    unfolding judged
+    won-walk =
+        let r = of-won (walk samePair (entryAt g) (image (take depth start)) (judgedOn (g .order) (length (take depth start)))) j in
+        (r .0, rw is-certificate (certificate-walk g is-formed (take depth start) (r .0) b (r .1)))
+
+    pub stands-there : walkAll g path ≡ won (pair row column)
+    unfolding walkAll
+    stands-there =
+        let r = won-walk in
+        r .1 ∙ ap won (sym (first-won (entryAt g) (image path) (turnAt (g .edges) (g .unknowns) path) (pairs (g .order)) (r .0) (λ k m. turn-codes g is-formed path k) (r .1)) ∙ sym s)
+
+    pub smaller-is : (steps count : ℕ) → count ≡ length (clauseOf g path)
+        → _≡_ {A = Judged} (record { verdict = Smaller row column steps; arrangement = path; literals = count }) (smaller g (certificateOf g (take depth start)) steps)
+    unfolding smaller standingPair
+    smaller-is steps count e = rw (← is-certificate, stands-there, e)
+
+  pub clause-is : (before after : List ℤ) → after ≡ clauseOf g path ++ drop (length (clauseOf g path)) before
+      → after ≡ clauseOf g (certificateOf g (take depth start)) ++ drop (length (clauseOf g (certificateOf g (take depth start)))) before
+  clause-is before after e = e ∙ ap (λ (q : List ℕ). clauseOf g q ++ drop (length (clauseOf g q)) before) is-certificate
+
+pub order-least : (g : Graph) → wellFormed g ≡ true → 1 ≤ g .order
+order-least g w = formed g w .order-low
+
+pub order-most : (g : Graph) → wellFormed g ≡ true → g .order ≤ 32
+order-most g w = formed g w .order-high
+
+-- ---- from the search to the answer
+
+module _ (g : Graph) (budget : ℕ) (e : Explored) (path : List ℕ) (f : foundBy e path ≡ found g budget) where
+  found-none : e .kind ≡ 0 → found g budget ≡ none (e .steps)
+  unfolding foundBy pick
+  found-none k = sym (rw (eq-eqb (e .kind) 0 k) at f)
+
+  found-first : e .kind ≡ 1 → found g budget ≡ first (take (e .depth) path) (e .steps)
+  unfolding foundBy pick
+  found-first k = sym (rw (ne-eqb (e .kind) 0 (λ z. omega arith), eq-eqb (e .kind) 1 k) at f)
+
+  found-cut : (e .kind ≡ 0 → ⊥) → (e .kind ≡ 1 → ⊥) → found g budget ≡ cut
+  unfolding foundBy pick
+  found-cut k l = sym (rw (ne-eqb (e .kind) 0 k, ne-eqb (e .kind) 1 l) at f)
+
+  module _ (r : Judged) where
+    pub answers-none : e .kind ≡ 0 → r ≡ without (Nothing (e .steps)) → r ≡ answerFor g budget (found g budget)
+    unfolding answerFor
+    answers-none k q = rw (found-none k) q
+
+    pub answers-cut : (e .kind ≡ 0 → ⊥) → (e .kind ≡ 1 → ⊥) → r ≡ without (Cut budget) → r ≡ answerFor g budget (found g budget)
+    unfolding answerFor
+    answers-cut k l q = rw (found-cut k l) q
+
+    pub answers-first : e .kind ≡ 1 → r ≡ smaller g (certificateOf g (take (e .depth) path)) (e .steps) → r ≡ answerFor g budget (found g budget)
+    unfolding answerFor
+    answers-first k q = rw (found-first k) q
+
+  module _ (k : e .kind ≡ 1) where
+    pub found-begins : Beginning (g .order) (blockOf (g .starts)) (take (e .depth) path)
+    unfolding found
+    found-begins = found-reached (g .order) (blockOf (g .starts)) (judged g) budget (take (e .depth) path) (e .steps) (found-first k) .0 .beginning
+
+    pub found-won : judged g (take (e .depth) path) ≡ Search.won
+    unfolding found
+    found-won = found-reached (g .order) (blockOf (g .starts)) (judged g) budget (take (e .depth) path) (e .steps) (found-first k) .1
+
+-- ---- the buffer
+
+-- a verdict other than smaller leaves it
+pub none-buffer : (g : Graph) (r : Judged) (steps : ℕ) (buffer : List ℤ) → r ≡ without (Nothing steps) → buffer ≡ atStart (r .verdict) (clauseOf g (r .arrangement)) buffer
+unfolding without atStart
+none-buffer g r steps buffer e = rw e
+
+pub cut-buffer : (g : Graph) (r : Judged) (steps : ℕ) (buffer : List ℤ) → r ≡ without (Cut steps) → buffer ≡ atStart (r .verdict) (clauseOf g (r .arrangement)) buffer
+unfolding without atStart
+cut-buffer g r steps buffer e = rw e
+
+pub refused-buffer : (g : Graph) (r : Judged) (number place : ℕ) (buffer : List ℤ) → r ≡ without (Refused number place) → buffer ≡ atStart (r .verdict) (clauseOf g (r .arrangement)) buffer
+unfolding without atStart
+refused-buffer g r number place buffer e = rw e
+
+-- smaller writes the clause
+pub smaller-buffer : (g : Graph) (p : List ℕ) (steps : ℕ) (r : Judged) (before after : List ℤ) → r ≡ smaller g p steps → after ≡ clauseOf g p ++ drop (length (clauseOf g p)) before
+    → after ≡ atStart (r .verdict) (clauseOf g (r .arrangement)) before
+unfolding smaller atStart
+smaller-buffer g p steps r before after e h = rw e h
+
+-- ---- the refusals
+
+pub room-known : (n room : ℕ) (b : Bool) → b ≡ leb (pairCount n) room → b ≡ true → pairCount n ≤ room
+room-known n room b e h = leb-true (pairCount n) room (sym e ∙ h)
+
+pub formed-known : (g : Graph) (b : Bool) → b ≡ wellFormed g → b ≡ true → wellFormed g ≡ true
+formed-known g b e h = sym e ∙ h
+
+module _ (g : Graph) (budget : ℕ) (buffer : List ℤ) (b : Bool) (e : b ≡ wellFormed g) where
+  Answered : Judged → List ℤ → Type 0
+  Answered r after = (r ≡ judgeAnswer g budget (length buffer)) × (after ≡ judgeBuffer g budget buffer)
+
+  -- the buffer goes by the answer
+  by-answer : (r : Judged) (after : List ℤ) → r ≡ judgeAnswer g budget (length buffer) → after ≡ atStart (r .verdict) (clauseOf g (r .arrangement)) buffer → Answered r after
+  unfolding Answered judgeBuffer
+  by-answer r after q h = (q, h ∙ ap (λ (x : Judged). atStart (x .verdict) (clauseOf g (x .arrangement)) buffer) q)
+
+  pub answers-malformed : (r : Judged) → b ≡ false → r ≡ without (Refused 8 0) → (r ≡ judgeAnswer g budget (length buffer)) × (buffer ≡ judgeBuffer g budget buffer)
+  unfolding Answered judgeAnswer
+  answers-malformed r h q = by-answer r buffer (refused b (wellFormed g) r _ _ e h q) (refused-buffer g r 8 0 buffer q)
+
+  module _ (c : Bool) (f : c ≡ leb (pairCount (g .order)) (length buffer)) (h : b ≡ true) (r : Judged) where
+    pub answers-cramped : c ≡ false → r ≡ without (Refused 5 0) → (r ≡ judgeAnswer g budget (length buffer)) × (buffer ≡ judgeBuffer g budget buffer)
+    unfolding Answered judgeAnswer
+    answers-cramped k q =
+        by-answer r buffer (passed b (wellFormed g) r _ _ e h (refused c (leb (pairCount (g .order)) (length buffer)) r _ _ f k q)) (refused-buffer g r 5 0 buffer q)
+
+    pub answers-judged : (after : List ℤ) → c ≡ true → r ≡ answerFor g budget (found g budget) → after ≡ atStart (r .verdict) (clauseOf g (r .arrangement)) buffer
+        → (r ≡ judgeAnswer g budget (length buffer)) × (after ≡ judgeBuffer g budget buffer)
+    unfolding Answered judgeAnswer
+    answers-judged after k q z =
+        by-answer r after (passed b (wellFormed g) r _ _ e h (passed c (leb (pairCount (g .order)) (length buffer)) r _ _ f k q)) z
+
+pub tested-least : (g : Graph) (b : Bool) → b ≡ wellFormed g → b ≡ true → 1 ≤ g .order
+tested-least g b e h = order-least g (sym e ∙ h)
+
+pub tested-most : (g : Graph) (b : Bool) → b ≡ wellFormed g → b ≡ true → g .order ≤ 32
+tested-most g b e h = order-most g (sym e ∙ h)
+
+-- the places after n of a path that began as zeros
+zeros-after : (m n : ℕ) → drop {A = ℕ} n (replicate m 0) ≡ replicate (m - n) 0
+zeros-after zero zero = refl
+zeros-after zero (suc n) = let e : 0 - suc n ≡ 0 = omega arith in rw e
+zeros-after (suc m) zero = let e : suc m - 0 ≡ suc m = omega arith in rw e
+zeros-after (suc m) (suc n) = let e : suc m - suc n ≡ m - n = omega arith in zeros-after m n ∙ rw e
+
+pub still-zeros : (n : ℕ) (path : List ℕ) → drop n path ≡ drop n (replicate 32 0) → drop n path ≡ replicate (32 - n) 0
+still-zeros n path e = e ∙ zeros-after 32 n
