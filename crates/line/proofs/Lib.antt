@@ -6,3 +6,4 @@ pub mod Joined
 pub mod Poured
 pub mod Taken
 pub mod Verdicts
+pub mod Room
