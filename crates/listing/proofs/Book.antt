@@ -74,7 +74,7 @@ lines-go-on number s h fine =
 
 -- a refused one is the last
 pub lines-end : (number : ℕ) (s : List ℕ) → 1 ≤ length s → ((readAnswer s) .refusal ≡ 0 → ⊥) → linesOf number s ≡ recordLine number s
-lines-end number s h no =
+lines-end number s h refused =
     lines-next number s h
-    ∙ ap {B = List ℕ} (λ r. recordLine number s ++ r) (pick-false (eqb ((readAnswer s) .refusal) 0) (linesOf (suc number) (restOf s)) [] (ne-eqb ((readAnswer s) .refusal) 0 no))
+    ∙ ap {B = List ℕ} (λ r. recordLine number s ++ r) (pick-false (eqb ((readAnswer s) .refusal) 0) (linesOf (suc number) (restOf s)) [] (ne-eqb ((readAnswer s) .refusal) 0 refused))
     ∙ append-nil (recordLine number s)

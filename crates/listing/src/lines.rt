@@ -3,13 +3,11 @@ use record::Record;
 use search::Judged;
 use search::Verdict;
 ghost use mathlib.Core.Path.{_≡_};
-ghost use mathlib.Core.List.{_++_};
-ghost use Prim.Native.Nat.{_+_, _-_, _≤_, _<_};
-ghost use lib.ListN.{length, drop};
-ghost use Rattle.record.specs.Answers.{readAnswer, restOf};
+ghost use Prim.Native.Nat.{_+_, _≤_, _<_};
+ghost use lib.ListN.{length};
 ghost use Rattle.search.specs.Answer.{without};
-ghost use Rattle.listing.specs.Listing.{judgedRecord, literalsOf, recordLine};
-ghost use Rattle.listing.specs.Progress.{Listed};
+ghost use Rattle.listing.specs.Listing.{judgedRecord, literalsOf};
+ghost use Rattle.listing.specs.Progress.{Put, Listed};
 
 // What putting one line came to: the bytes of the line, the bytes of the record, and its refusal, if any.
 struct Turn {
@@ -50,7 +48,7 @@ fn judged_record(found: Record, literals: &mut [i32]) -> Judged
 // Puts the line of the record at the start of bytes at the start of out.
 fn put_record(bytes: &[u8], number: u32, out: &mut [u8]) -> Turn
     requires { ⌜ 8192 ≤ length (now out) ⌝ }
-    ensures { λ r. ⌜ (r .written ≡ length (recordLine number (now (bytes .entry)))) × (now (out .exit) ≡ recordLine number (now (bytes .entry)) ++ drop (length (recordLine number (now (bytes .entry)))) (now (out .entry))) × (r .taken ≡ length (now (bytes .entry)) - length (restOf (now (bytes .entry)))) × (r .refusal ≡ (readAnswer (now (bytes .entry))) .refusal) × (r .written ≤ 8192) ⌝ }
+    ensures { λ r. ⌜ Put number (now (bytes .entry)) (now (out .entry)) (now (out .exit)) r ⌝ }
 {
     let found = record::read(bytes);
     let graph = found.graph;
