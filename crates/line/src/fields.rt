@@ -49,7 +49,17 @@ fn put_end(out: &mut [u8], at: usize, arrangement: &[u8], clause: &[i32]) -> usi
 }
 
 // A line at the start of the buffer.
-pub fn put_line(out: &mut [u8], number: u32, order: u32, verdict: &[u8], row: u32, column: u32, steps: u32, arrangement: &[u8], clause: &[i32]) -> usize
+pub fn put_line(
+    out: &mut [u8],
+    number: u32,
+    order: u32,
+    verdict: &[u8],
+    row: u32,
+    column: u32,
+    steps: u32,
+    arrangement: &[u8],
+    clause: &[i32],
+) -> usize
     ensures { λ r. ⌜ page (now (out .exit)) r ≡ written (page (now (out .entry)) 0) (lineOf number order (now (verdict .entry)) row column steps (now (arrangement .entry)) (now (clause .entry))) ⌝ }
 {
     let numbers = put_start(out, 0, number, order, verdict);
@@ -58,7 +68,14 @@ pub fn put_line(out: &mut [u8], number: u32, order: u32, verdict: &[u8], row: u3
 }
 
 // A line without a standing pair at the start of the buffer.
-pub fn put_bare(out: &mut [u8], number: u32, order: u32, verdict: &[u8], row: u32, steps: u32) -> usize
+pub fn put_bare(
+    out: &mut [u8],
+    number: u32,
+    order: u32,
+    verdict: &[u8],
+    row: u32,
+    steps: u32,
+) -> usize
     ensures { λ r. ⌜ page (now (out .exit)) r ≡ written (page (now (out .entry)) 0) (lineOf number order (now (verdict .entry)) row 0 steps [] []) ⌝ }
 {
     put_line(out, number, order, verdict, row, 0, steps, &[], &[])

@@ -58,13 +58,22 @@ pub fn line(out: &mut [u8], number: u32, order: u32, judged: Judged, literals: &
             let places = first_places(&arrangement, order as usize);
             let clause = first_literals(literals, judged.literals);
             put_line(
-                out, number, order, b"smaller", row, column, steps, places, clause,
+                out,
+                number,
+                order,
+                b"smaller",
+                row,
+                column,
+                steps,
+                places,
+                clause,
             )
         }
         Verdict::Nothing { steps } => put_bare(out, number, order, b"none", 0, steps),
         Verdict::Cut { steps } => put_bare(out, number, order, b"cut", 0, steps),
-        Verdict::Refused { number: refusal, place: _ } => {
-            put_bare(out, number, 0, b"refused", refusal, 0)
-        }
+        Verdict::Refused {
+            number: refusal,
+            place: _,
+        } => { put_bare(out, number, 0, b"refused", refusal, 0) }
     }
 }

@@ -25,4 +25,3 @@ pub fn put(out: &mut [u8], at: usize, text: &[u8]) -> usize
     }
     next
 }
-

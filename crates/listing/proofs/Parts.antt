@@ -48,7 +48,6 @@ drop-taken (suc b) (x ∷ s) =
 module _ (book : List ℕ) (at number : ℕ) (out : List ℕ) (used from n : ℕ) (last : List ℕ) (turn : Turn)
     (before : SoFar book at number out used from n)
     (put : Put n (take (length book - from) (drop from book)) (take (length out - used) (drop used out)) last turn) where
-
   bytes-are : take (length book - from) (drop from book) ≡ drop from book
   bytes-are = take-all (length book - from) (drop from book) (rw (length-drop from book) (omega arith))
 

@@ -5,8 +5,8 @@ use borrow.Author.Tests.{eq-eqb, ne-eqb}
 use mathlib.Core.Path.{_≡_, refl, sym, ap, _∙_}
 use mathlib.Core.List.{List, _++_}
 use lib.IntN.{ℤ, pos}
-use lib.ListN.{length, drop, length-drop, length-replicate}
-use lib.Seq.{take-all}
+use lib.ListN.{length, take, drop, length-drop, length-replicate}
+use lib.Seq.{length-take-le, take-all}
 use lib.Dec.{eqb}
 use Rattle.laws.specs.TestLaws.{pick-true, pick-false}
 use Rattle.record.specs.declared.Record.{Record}
@@ -28,16 +28,18 @@ module _ (found : Record) (r : Judged) (buffer out : List ℤ) where
   pub answers-refused : (found .refusal ≡ 0 → ⊥) → r ≡ without (Refused (found .refusal) (found .place)) → out ≡ buffer → (r ≡ judgedRecord found (length buffer)) × (out ≡ literalsOf found buffer)
   unfolding judgedRecord literalsOf
   answers-refused h e k =
-      let t = ne-eqb (found .refusal) 0 h in
-      (e ∙ sym (pick-false (eqb (found .refusal) 0) (judgeAnswer (found .graph) budget (length buffer)) (without (Refused (found .refusal) (found .place))) t),
-      k ∙ sym (pick-false (eqb (found .refusal) 0) (judgeBuffer (found .graph) budget buffer) buffer t))
+      let t = ne-eqb (found .refusal) 0 h in (
+        e ∙ sym (pick-false (eqb (found .refusal) 0) (judgeAnswer (found .graph) budget (length buffer)) (without (Refused (found .refusal) (found .place))) t),
+        k ∙ sym (pick-false (eqb (found .refusal) 0) (judgeBuffer (found .graph) budget buffer) buffer t),
+      )
 
   pub answers-judged : found .refusal ≡ 0 → (r ≡ judgeAnswer (found .graph) budget (length buffer)) × (out ≡ judgeBuffer (found .graph) budget buffer) → (r ≡ judgedRecord found (length buffer)) × (out ≡ literalsOf found buffer)
   unfolding judgedRecord literalsOf
   answers-judged h e =
-      let t = eq-eqb (found .refusal) 0 h in
-      (e .0 ∙ sym (pick-true (eqb (found .refusal) 0) (judgeAnswer (found .graph) budget (length buffer)) (without (Refused (found .refusal) (found .place))) t),
-      e .1 ∙ sym (pick-true (eqb (found .refusal) 0) (judgeBuffer (found .graph) budget buffer) buffer t))
+      let t = eq-eqb (found .refusal) 0 h in (
+        e .0 ∙ sym (pick-true (eqb (found .refusal) 0) (judgeAnswer (found .graph) budget (length buffer)) (without (Refused (found .refusal) (found .place))) t),
+        e .1 ∙ sym (pick-true (eqb (found .refusal) 0) (judgeBuffer (found .graph) budget buffer) buffer t),
+      )
 
 -- ---- what follows the record
 
@@ -80,3 +82,9 @@ module _ (number : ℕ) (s old out : List ℕ) (found : Record) (judged : Judged
         taken-is = ap (λ (l : List ℕ). length s - length l) is-rest;
         refusal-is = ap (λ (f : Record). f .refusal) is-found;
       }
+
+-- ---- what is written out
+
+-- the used part of a buffer has as many bytes as were put there
+pub used-long : (old out : List ℕ) (a r : ℕ) → r ≡ min a (length old) → length out ≡ length old → length (take r out) ≡ r
+used-long old out a r e k = length-take-le r out (omega arith)

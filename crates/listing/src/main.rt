@@ -5,9 +5,13 @@ use libc::STDIN_FILENO;
 use libc::STDOUT_FILENO;
 use lines::list_some;
 use lines::refused;
+ghost use Prim.Native.Nat.{_≤_};
+ghost use lib.ListN.{length};
 
 // Writes the lines of a book, in parts of many lines.
-fn list(book: &[u8]) {
+fn list(book: &[u8])
+    requires { ⌜ length (now book) ≤ 65536 ⌝ }
+{
     let mut out = io::large_buffer();
     let mut at = 0;
     let mut number = 1;

@@ -1,12 +1,16 @@
 use borrow.Author.Needs.{needs}
+use lib.Seq.{length-take-le}
+use Prim.Native.Nat.{_+_, _-_, _≤_}
+use mathlib.Core.Path.{_≡_}
+use lib.ListN.{length}
 use Rattle.listing.proofs.list.Statement.{statement}
 use Rattle.listing.proofs.list.Tie as tie
 
 abbrev Inv-loop : tie.InvT-loop
-Inv-loop book out₀ at₀ number₀ out at number = ?
+Inv-loop book out₀ at₀ number₀ out at number = (length out ≡ 65536) × (at ≤ length book) × (number ≤ at + 1)
 
 abbrev μ-loop : tie.MeasureT-loop
-μ-loop book out₀ at₀ number₀ out at number = ?
+μ-loop book out₀ at₀ number₀ out at number = length book - at
 
 large-buffer-requires : tie.Need-large-buffer-requires Inv-loop μ-loop
 large-buffer-requires c κs = search needs
@@ -24,7 +28,7 @@ array-share-prefix-out : tie.Need-array-share-prefix-out Inv-loop μ-loop
 array-share-prefix-out c = search needs
 
 slice-aggregate-write-all : tie.Need-slice-aggregate-write-all Inv-loop μ-loop
-slice-aggregate-write-all c = search needs
+slice-aggregate-write-all c = search (length-take-le, needs)
 
 write-all-requires : tie.Need-write-all-requires Inv-loop μ-loop
 write-all-requires c κs = search needs
