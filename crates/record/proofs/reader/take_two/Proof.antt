@@ -83,7 +83,7 @@ module _ {M : Type 1} (𝓤 : URA M) (H : Heap 𝓤) (A : Atoms 𝓤) (W : Given
 
   -- the reader at the place passed, after the first field and after the second, and the two fields
   abbrev h₀ : Reader
-  h₀ = movedTo (opened s) p
+  h₀ = record { bytes = s; place = p }
 
   abbrev one : Taken
   one = fieldAhead h₀ m

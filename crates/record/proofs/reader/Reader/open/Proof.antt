@@ -35,7 +35,6 @@ use denote.Triple.Table.{entered}
 use denote.Triple.Walked.{says, Stays, stay-none-slice, walkOf, goes-none-slice, Walks, ends-at, walked, walk-meets}
 use denote.Exit.{yes}
 use Rattle.record.specs.declared.reader.Reader.{Reader}
-use Rattle.record.specs.Reader.{opened}
 use Rattle.record.proofs.reader.Reader as T
 use Rattle.record.proofs.reader.Reader.Laws as T′
 use Rattle.record.proofs.reader.Reader.open.Key.{name as #record·open}
@@ -55,7 +54,7 @@ module _ {M : Type 1} (𝓤 : URA M) (H : Heap 𝓤) (A : Atoms 𝓤) (W : Given
   v = sliceVal (s .ptr) (length (s .now))
 
   abbrev made : Reader
-  made = opened s
+  made = record { bytes = s; place = 0 }
 
   abbrev at : List Val × Unit {0}
   at = (v ∷ [], tt)

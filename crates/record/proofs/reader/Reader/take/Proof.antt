@@ -28,7 +28,7 @@ use denote.Laws.{Is, shows}
 use denote.Memory.{mem, cellAt}
 use denote.Plain.{uint-vals, uint-tells, uint-makes}
 use denote.Builtin.{u8, u32, usize}
-use denote.Ref.{RefT, NamedLft, MutRef, ptr-vals, mut-tells}
+use denote.Ref.{RefT, NamedLft, MutRef, now, ptr-vals, mut-tells}
 use denote.Signature.{Slot, plain, namedLft}
 use denote.Slice.{sliceVal, ShrSlice}
 use denote.Steps.{only, opens, closes, owned, peeks, facts, heard, nothing}
@@ -45,7 +45,7 @@ use denote.Triple.Spec.{Meets, tripleOf}
 use denote.Triple.Table.{entered, cited}
 use denote.Triple.Walked.{says, Stays, stay-ref, stay-none, walkOf, goes-none, goes-ref, Walks, ends-at, walked, walk-meets}
 use denote.Exit.{yes}
-use Rattle.record.specs.Reader.{fieldAhead, movedTo}
+use Rattle.record.specs.Reader.{takenAt}
 use Rattle.record.specs.declared.reader.Reader.{Reader}
 use Rattle.record.specs.declared.reader.Taken.{Taken}
 use Rattle.record.proofs.Value as U
@@ -108,7 +108,11 @@ module _ {M : Type 1} (𝓤 : URA M) (H : Heap 𝓤) (A : Atoms 𝓤) (W : Given
   v = sliceVal (h .bytes .ptr) (length (h .bytes .now))
 
   abbrev found : Taken
-  found = fieldAhead h n
+  found = takenAt (now (h .bytes)) (h .place) n
+
+  -- the reader at another place
+  abbrev h′ : ℕ → Reader
+  h′ m = record { bytes = h .bytes; place = m }
 
   abbrev Post : Val → SProp 𝓤
   Post = walkOf 𝓤 H A taking.ended stayed (taking.clauses 𝓤 H A at-mem run) .post (((κ, (κ′, tt)), (q, (q′, tt)), bounds, a, vals), tt)
@@ -148,15 +152,15 @@ module _ {M : Type 1} (𝓤 : URA M) (H : Heap 𝓤) (A : Atoms 𝓤) (W : Given
   spelled r u is = subst (λ (x : Val). Holds (hasTy S′.mir x) × WT x) (told r u is) (typed r u is)
 
   -- the place's facts are made anew beside what the bytes own
-  again : (m : ℕ) → m < 2 ^ 64 → ent 𝓤 (sem 𝓤 H A Own) (sem 𝓤 H A (R .own (movedTo h m) (T′.lowered (movedTo h m) ∷ [])))
+  again : (m : ℕ) → m < 2 ^ 64 → ent 𝓤 (sem 𝓤 H A Own) (sem 𝓤 H A (R .own (h′ m) (T′.lowered (h′ m) ∷ [])))
   again m fits = qed W (‵ Own ∷ []) ∵ owned ! usize (Is usize) (uint-makes 𝓤 H A W w64) m _ (refl, fits) $ move ! (1 ∷ 0 ∷ []) $ by ! (own-put 𝓤 H A W D L 1 vh m mach)
 
   exits : (r : Taken) (u : Val) → Is S.the-row r (u ∷ []) → r ≡ found
-      → ent 𝓤 (⋆ 𝓤 H A (‵ (fobs γ (R .coded .code (movedTo h (r .next)))) ∷ ‵ (fbor κ (Body (mem R) b o γ)) ∷ ‵ (flft κ q) ∷ (‵ (flft κ′ q′) ⊛ ‵ ftrue) ∷ [])) (Post (U′.lowered (r .found)))
+      → ent 𝓤 (⋆ 𝓤 H A (‵ (fobs γ (R .coded .code (h′ (r .next)))) ∷ ‵ (fbor κ (Body (mem R) b o γ)) ∷ ‵ (flft κ q) ∷ (‵ (flft κ′ q′) ⊛ ‵ ftrue) ∷ [])) (Post (U′.lowered (r .found)))
   exits r u is e =
-      qed W (‵ (fobs γ (R .coded .code (movedTo h (r .next)))) ∷ ‵ (fbor κ (Body (mem R) b o γ)) ∷ ‵ (flft κ q) ∷ (‵ (flft κ′ q′) ⊛ ‵ ftrue) ∷ []) ∵
-      suffices ! _ (ends-at 𝓤 H A taking.ended stayed (taking.clauses 𝓤 H A at-mem run) W (((κ, (κ′, tt)), (q, (q′, tt)), bounds, a, vals), tt) (U′.lowered (r .found)) (r .found) (movedTo h (r .next), (tt, tt)) (tt, (tt, tt))) $
-      says ! (ap (λ (t : Taken). t .found) e, ap (λ (t : Taken). movedTo h (t .next)) e) $
+      qed W (‵ (fobs γ (R .coded .code (h′ (r .next)))) ∷ ‵ (fbor κ (Body (mem R) b o γ)) ∷ ‵ (flft κ q) ∷ (‵ (flft κ′ q′) ⊛ ‵ ftrue) ∷ []) ∵
+      suffices ! _ (ends-at 𝓤 H A taking.ended stayed (taking.clauses 𝓤 H A at-mem run) W (((κ, (κ′, tt)), (q, (q′, tt)), bounds, a, vals), tt) (U′.lowered (r .found)) (r .found) (h′ (r .next), (tt, tt)) (tt, (tt, tt))) $
+      says ! (ap (λ (t : Taken). t .found) e, ap (λ (t : Taken). h′ (t .next)) e) $
       move ! (2 ∷ 3 ∷ []) $ join ! $ frame ! $ feqI ! (List Val) (vptr b o ∷ []) (vptr b o ∷ []) refl $ fjoin3 ! $
       nothing ! $ owned ! u32 (Is u32) (uint-makes 𝓤 H A W w32) n _ (refl, n-fits) $ fjoin ! $ move ! (1 ∷ 0 ∷ []) $ fjoin ! $
       owned ! U.the-row (Is U.the-row) (LL.makes U.the-type U′.the-plain 𝓤 H A) (r .found) (U′.lowered (r .found) ∷ []) (LL.owed S.the-type S′.the-laws r (u ∷ []) is .0) $ move ! (1 ∷ 0 ∷ []) $ done !
@@ -185,9 +189,9 @@ module _ {M : Type 1} (𝓤 : URA M) (H : Heap 𝓤) (A : Atoms 𝓤) (W : Given
         assigns ! (of-opd ! (load ! (from ! (fld ! refl (stop !))) (look-in ! 11 (sub ! 1 refl (whole !))))) (from ! (hop ! (look ! 15 refl) (fld ! refl (stop !)))) (store-in ! 2 (sub ! 1 refl (whole !)) (tt, spelled r u is .1 .1 .0)) $
         assigns ! (of-opd ! (load ! (from ! (fld ! refl (stop !))) (look-in ! 11 (sub ! 0 refl (whole !))))) (from ! (stop !)) (init ! 17 refl (tt, spelled r u is .1 .0)) $
         -- the borrow is closed at the reader with the new place
-        move ! (1 ∷ []) $ use1 W (‵ (R .own (movedTo h (r .next)) (T′.lowered (movedTo h (r .next)) ∷ []))) (again (r .next) (LL.owed S.the-type S′.the-laws r _ is .1 .0 .1)) $
-        move ! (2 ∷ []) $ use1 W (‵ (cellAt fullShare (R .mir) (T′.lowered (movedTo h (r .next)) ∷ []) b o)) (W .laws .at-raw fullShare (T′.mir erased) b o (T′.lowered (movedTo h (r .next)))) $
-        move ! (0 ∷ 1 ∷ 3 ∷ 4 ∷ 5 ∷ []) $ closes ! tt R (movedTo h (r .next)) (T′.lowered (movedTo h (r .next)) ∷ []) b o $
+        move ! (1 ∷ []) $ use1 W (‵ (R .own (h′ (r .next)) (T′.lowered (h′ (r .next)) ∷ []))) (again (r .next) (LL.owed S.the-type S′.the-laws r _ is .1 .0 .1)) $
+        move ! (2 ∷ []) $ use1 W (‵ (cellAt fullShare (R .mir) (T′.lowered (h′ (r .next)) ∷ []) b o)) (W .laws .at-raw fullShare (T′.mir erased) b o (T′.lowered (h′ (r .next)))) $
+        move ! (0 ∷ 1 ∷ 3 ∷ 4 ∷ 5 ∷ []) $ closes ! tt R (h′ (r .next)) (T′.lowered (h′ (r .next)) ∷ []) b o $
         -- [obs; the borrow; its token; the bytes' token; width's; _5; …; _4; …; _3; …; _2; …; _1; …; _0; …]
         returns ! (look ! 15 refl) $ forget ! 5 refl $ forget ! 7 refl $ forget ! 9 refl $ forget ! 11 refl $ forget ! 13 refl $ forget ! 15 refl $
         move ! (15 ∷ 16 ∷ []) $ free1 ! $ move ! (13 ∷ 14 ∷ []) $ free1 ! $ move ! (11 ∷ 12 ∷ []) $ free1 ! $ move ! (9 ∷ 10 ∷ []) $ free1 ! $ move ! (7 ∷ 8 ∷ []) $ free1 ! $ move ! (5 ∷ 6 ∷ []) $ free1 ! $ free0 ! $
