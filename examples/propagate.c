@@ -92,6 +92,7 @@ int main(void)
     assign(1, 2, NO_EDGE);
     assign(3, 4, NO_EDGE);
     assign(1, 3, NO_EDGE);
-    assign(2, 3, NO_EDGE);
+    /* With the new clause the solver turns its last assignment round. */
+    assign(1, 3, EDGE);
     return 0;
 }

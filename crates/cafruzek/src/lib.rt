@@ -73,8 +73,12 @@ pub extern "C" fn cafruzek_judge_rows<'a, 'b, 'c, 'd>(
 ) -> u64
     ensures { λ r. ⌜ (r ≡ packed (judgeAnswer (graphOf order (now (edges .entry)) (now (unknowns .entry)) starts) budget (length (now (literals .entry))))) × (now (literals .exit) ≡ judgeBuffer (graphOf order (now (edges .entry)) (now (unknowns .entry)) starts) budget (now (literals .entry))) × (now (arrangement .exit) ≡ arrangedAfter (judgeAnswer (graphOf order (now (edges .entry)) (now (unknowns .entry)) starts) budget (length (now (literals .entry)))) (now (arrangement .entry))) ⌝ }
 {
-    let graph = graph_of(order, edges, unknowns, starts);
-    judge_graph(graph, budget, literals, arrangement)
+    judge_graph(
+        graph_of(order, edges, unknowns, starts),
+        budget,
+        literals,
+        arrangement,
+    )
 }
 
 // The graph value of these rows.
@@ -112,7 +116,6 @@ pub extern "C" fn cafruzek_write_record<'a, 'b, 'c>(
 ) -> u64
     ensures { λ r. ⌜ (r ≡ packedWritten (writeAnswer (graphOf order (now (edges .entry)) (now (unknowns .entry)) starts) (now (out .entry)))) × (now (out .exit) ≡ bufferAfter (graphOf order (now (edges .entry)) (now (unknowns .entry)) starts) (now (out .entry))) ⌝ }
 {
-    let graph = graph_of(order, edges, unknowns, starts);
-    let done = record::write(graph, out);
+    let done = record::write(graph_of(order, edges, unknowns, starts), out);
     counted(done.refusal, done.place, done.written)
 }

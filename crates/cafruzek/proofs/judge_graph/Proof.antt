@@ -10,7 +10,7 @@ enum-known-verdict : tie.Need-enum-known-verdict
 enum-known-verdict c = search needs
 
 joined-requires : tie.Need-joined-requires
-joined-requires c κs = (search smaller-row, search smaller-column, search literals-fit, search needs)
+joined-requires c κs = search (smaller-row, smaller-column, literals-fit, needs)
 
 enum-known-verdict-2 : tie.Need-enum-known-verdict-2
 enum-known-verdict-2 c = search needs

@@ -1,0 +1,100 @@
+/* include/cafruzek.h, compiled as C and as C++: worked graphs through each of its
+ * functions. */
+#include <stdio.h>
+#include <stdlib.h>
+#include <string.h>
+
+#include "cafruzek.h"
+
+#define CHECK(fact)                                                       \
+    do {                                                                  \
+        if (!(fact)) {                                                    \
+            fprintf(stderr, "%s:%d: %s\n", __FILE__, __LINE__, #fact);    \
+            exit(1);                                                      \
+        }                                                                 \
+    } while (0)
+
+static int32_t literals[CAFRUZEK_MOST_LITERALS];
+static uint8_t arrangement[CAFRUZEK_MOST_VERTICES];
+
+/* Judges these bytes, with buffers that hold what no answer writes. */
+static uint64_t judge(const uint8_t *record, size_t length, uint32_t budget)
+{
+    memset(literals, 0x55, sizeof literals);
+    memset(arrangement, 0x55, sizeof arrangement);
+    return cafruzek_judge_record(record, length, budget, literals, CAFRUZEK_MOST_LITERALS, arrangement);
+}
+
+static int unchanged(void)
+{
+    for (int i = 0; i < CAFRUZEK_MOST_LITERALS; i++)
+        if (literals[i] != 0x55555555)
+            return 0;
+    for (int i = 0; i < CAFRUZEK_MOST_VERTICES; i++)
+        if (arrangement[i] != 0x55)
+            return 0;
+    return 1;
+}
+
+static void judging(void)
+{
+    const uint8_t one_edge[] = {0x0c, 0x40, 0xff}, last_edge[] = {0x0c, 0x04};
+
+    uint64_t answer = judge(one_edge, sizeof one_edge, UINT32_MAX);
+    CHECK(cafruzek_code(answer) == CAFRUZEK_SMALLER && cafruzek_refusal(answer) == 0);
+    CHECK(cafruzek_row(answer) == 1 && cafruzek_column(answer) == 2 && cafruzek_steps(answer) == 4);
+    CHECK(cafruzek_literals(answer) == 2 && literals[0] == -1 && literals[1] == 2 && literals[2] == 0x55555555);
+    CHECK(arrangement[0] == 1 && arrangement[1] == 3 && arrangement[2] == 2);
+    for (int i = 3; i < CAFRUZEK_MOST_VERTICES; i++)
+        CHECK(arrangement[i] == 0);
+
+    answer = judge(one_edge, sizeof one_edge, 3);
+    CHECK(cafruzek_code(answer) == CAFRUZEK_CUT && cafruzek_steps(answer) == 3 && unchanged());
+
+    answer = judge(last_edge, sizeof last_edge, UINT32_MAX);
+    CHECK(cafruzek_code(answer) == CAFRUZEK_NONE && cafruzek_steps(answer) == 13 && unchanged());
+}
+
+/* Checks that reading refuses these bytes alike in both functions. */
+static void refused(const uint8_t *record, size_t length, uint32_t number, uint32_t place)
+{
+    uint64_t answer = judge(record, length, UINT32_MAX);
+    CHECK(cafruzek_refusal(answer) == number && cafruzek_place(answer) == place && unchanged());
+    CHECK(cafruzek_record_size(record, length) == answer);
+}
+
+static void records(void)
+{
+    const uint8_t pad[] = {0x0c, 0x41}, entry[] = {0x0c, 0x70}, order[] = {0x84};
+    refused(pad, 2, 4, 0);
+    refused(entry, 2, 3, 2);
+    refused(pad, 1, 1, 1);
+    refused(pad, 0, 1, 0);
+    refused(order, 1, 2, 33);
+
+    const uint32_t edges[32] = {2, 1}, unknowns[32] = {0};
+    uint8_t out[4] = {0x55, 0x55, 0x55, 0x55};
+    CHECK(cafruzek_refusal(cafruzek_write_record(3, edges, unknowns, 1, out, 1)) == 6 && out[0] == 0x55);
+    CHECK(cafruzek_refusal(cafruzek_write_record(1, edges, unknowns, 1, out, 4)) == 8 && out[0] == 0x55);
+    CHECK(cafruzek_bytes(cafruzek_write_record(3, edges, unknowns, 1, out, 4)) == 2);
+    CHECK(out[0] == 0x0c && out[1] == 0x40 && out[2] == 0x55 && out[3] == 0x55);
+    CHECK(cafruzek_bytes(cafruzek_record_size(out, 4)) == 2);
+
+    uint64_t answer = judge(out, 4, 100);
+    memset(literals, 0x55, sizeof literals);
+    memset(arrangement, 0x55, sizeof arrangement);
+    CHECK(cafruzek_judge_rows(3, edges, unknowns, 1, 100, literals, 3, arrangement) == answer);
+    CHECK(literals[0] == -1 && literals[1] == 2 && literals[2] == 0x55555555 && arrangement[1] == 3);
+    memset(literals, 0x55, sizeof literals);
+    memset(arrangement, 0x55, sizeof arrangement);
+    CHECK(cafruzek_refusal(cafruzek_judge_rows(3, edges, unknowns, 1, 100, literals, 2, arrangement)) == 5);
+    CHECK(cafruzek_refusal(cafruzek_judge_rows(3, edges, unknowns, 2, 100, literals, 3, arrangement)) == 8);
+    CHECK(unchanged());
+}
+
+int main(void)
+{
+    judging();
+    records();
+    return 0;
+}
