@@ -17,6 +17,7 @@ mod certificate;
 mod clause;
 mod explore;
 mod masks;
+mod stops;
 mod turns;
 
 use certificate::complete;

@@ -9,7 +9,7 @@ ghost use Rattle.search.specs.Code.{marksOf, turnBy, turnAt, walkCode, W
 use graph::inner::vertex_at;
 
 // The edges of row i.
-fn edges_of(edges: &[u32; 32], i: u32) -> u32
+pub fn edges_of(edges: &[u32; 32], i: u32) -> u32
     requires { ⌜ (1 ≤ i) × (i ≤ 32) ⌝ }
     ensures { λ r. ⌜ r ≡ row (now (edges .entry)) i ⌝ }
 {
@@ -18,7 +18,7 @@ fn edges_of(edges: &[u32; 32], i: u32) -> u32
 }
 
 // The entries of row u that are not 0.
-fn marks_of<'a>(edges: &'a [u32; 32], unknowns: &'a [u32; 32], u: u32) -> u32
+pub fn marks_of<'a>(edges: &'a [u32; 32], unknowns: &'a [u32; 32], u: u32) -> u32
     requires { ⌜ (1 ≤ u) × (u ≤ 32) ⌝ }
     ensures { λ r. ⌜ r ≡ marksOf (now (edges .entry)) (now (unknowns .entry)) u ⌝ }
 {
@@ -79,7 +79,7 @@ pub fn pair_turn<'a>(
 }
 
 // The walk along row i from (i, j) to (i, n).
-pub fn row_walk<'a>(
+fn row_walk<'a>(
     edges: &'a [u32; 32],
     unknowns: &'a [u32; 32],
     path: &'a [u8; 32],
@@ -114,7 +114,7 @@ pub fn rows_walk<'a>(
     n: u32,
     from: u32,
 ) -> u32
-    requires { ⌜ (n ≤ 32) × (1 ≤ from) × (from ≤ n) × Within n (now path) ⌝ }
+    requires { ⌜ (n ≤ 32) × (1 ≤ from) × Within n (now path) ⌝ }
     ensures { λ r. ⌜ r ≡ walkCode (turnAt (now (edges .entry)) (now (unknowns .entry)) (now (path .entry))) (fromRow from (n - from)) ⌝ }
 {
     let mut i = from;
