@@ -1,15 +1,15 @@
 -- What is told fits the places that it has in an answer.
-use Prim.Native.Nat.{ℕ, suc, _+_, _≤_, _<_, _^_}
+use Prim.Native.Nat.{ℕ, _≤_, _<_, _^_}
 use native.Mathlib.Omega.{arith}
-use mathlib.Core.Path.{_≡_, refl, sym, subst}
+use mathlib.Core.Path.{_≡_, refl}
 use mathlib.Core.Bool.{Bool, true, false}
-use mathlib.Core.List.{List, _∷_, List·Memᴰ, List·Memᴰ·head, Memᴰ·append-right}
-use borrow.Author.Tests.{leb-true, lt-ltb, le-ltb, lt-leb, eqb-true}
+use mathlib.Core.List.{List, List·Memᴰ·head, Memᴰ·append-right}
+use borrow.Author.Tests.{leb-true}
 use lib.ListN.{length}
 use lib.Dec.{eqb, leb, ltb}
 use Rattle.laws.specs.Test.{pick, unless}
 use Rattle.graph.specs.declared.Graph.{Graph}
-use Rattle.graph.specs.WellFormed.{WellFormed, wellFormed, orderFits}
+use Rattle.graph.specs.WellFormed.{wellFormed, orderFits}
 use Rattle.graph.specs.Pairs.{Pair, pairs, pairCount, entryAt}
 use Rattle.graph.proofs.Formed.{formed, order-in-range}
 use Rattle.graph.proofs.PairLaws.{Between, pairs-given, pairCount-mono}

@@ -1,5 +1,5 @@
 -- The fields of a number are those that it was made of.
-use Prim.Native.Nat.{ℕ, _+_, _*_, _/_, _%_, _^_, _<_}
+use Prim.Native.Nat.{ℕ, _^_, _<_}
 use native.Mathlib.Omega.{arith}
 use mathlib.Core.Path.{_≡_}
 use Rattle.cafruzek.specs.Packing.{fields, bitsFrom, lowIn, rowIn, columnIn, literalsIn, codeIn}

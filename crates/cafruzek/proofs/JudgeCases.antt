@@ -1,7 +1,7 @@
 -- The answer of judging a graph value in each of its cases, as the code makes it.
-use Prim.Native.Nat.{ℕ, _+_, _≤_, _<_}
+use Prim.Native.Nat.{ℕ, _+_, _<_}
 use native.Mathlib.Omega.{arith}
-use mathlib.Core.Path.{_≡_, refl, sym, ap, subst, _∙_}
+use mathlib.Core.Path.{_≡_, ap, _∙_}
 use mathlib.Core.Logic.{_≢_}
 use mathlib.Core.List.{List}
 use mathlib.Core.Bool.{false}
@@ -10,12 +10,11 @@ use lib.IntN.{ℤ}
 use lib.Dec.{ltb}
 use Rattle.laws.specs.Test.{pick}
 use Rattle.graph.specs.declared.Graph.{Graph}
-use Rattle.search.specs.declared.Verdict.{Verdict}
 use Rattle.search.specs.declared.Verdict.the-variants.{Smaller, Nothing, Cut, Refused}
 use Rattle.search.specs.declared.Judged.{Judged}
 use Rattle.search.specs.Answer.{told, judgeAnswer, judgeBuffer}
 use Rattle.search.proofs.Buffer.{zeros-beside}
-use Rattle.cafruzek.specs.Packing.{fields, placeTold, refusal, lowTold, packed}
+use Rattle.cafruzek.specs.Packing.{fields, refusal, lowTold, packed}
 use Rattle.cafruzek.specs.Answers.{arrangedBy, arrangedAfter}
 use Rattle.cafruzek.proofs.Bounds.{Bounded, judged-bounded}
 

@@ -1,20 +1,19 @@
 -- The answer of judging a record in each of its cases, as the code makes it.
 use Prim.Native.Nat.{ℕ, _+_, _≤_, _<_}
 use native.Mathlib.Omega.{arith}
-use mathlib.Core.Path.{_≡_, refl, sym, ap, _∙_}
+use mathlib.Core.Path.{_≡_, ap, _∙_}
 use mathlib.Core.Bool.{false}
 use mathlib.Core.List.{List}
 use borrow.Author.Tests.{le-ltb, eq-eqb, ne-eqb}
 use lib.IntN.{ℤ}
 use lib.ListN.{length}
-use lib.Dec.{eqb, ltb}
+use lib.Dec.{ltb}
 use Rattle.laws.specs.Test.{pick}
 use Rattle.graph.specs.declared.Graph.{Graph}
 use Rattle.record.specs.declared.Extent.{Extent}
 use Rattle.record.specs.declared.Record.{Record}
 use Rattle.record.specs.declared.Written.{Written}
 use Rattle.record.specs.Answers.{recordAt, readAnswer, writeAnswer, bufferAfter}
-use Rattle.search.specs.declared.Verdict.the-variants.{Refused}
 use Rattle.search.specs.Answer.{told, without, judgeAnswer, judgeBuffer}
 use Rattle.cafruzek.specs.Packing.{refusal, lowTold, packed, packedExtent, packedWritten}
 use Rattle.cafruzek.specs.Answers.{arrangedBy, arrangedAfter, judgeRecord, judgeRecordBuffer}

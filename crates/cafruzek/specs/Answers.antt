@@ -2,16 +2,14 @@
 use Prim.Native.Nat.{ℕ}
 use mathlib.Core.List.{List}
 use lib.IntN.{ℤ}
-use lib.ListN.{length}
 use lib.Dec.{eqb}
 use Rattle.laws.specs.Test.{pick}
 use Rattle.graph.specs.declared.Graph.{Graph}
-use Rattle.record.specs.Answers.{readAnswer, recordAt, writeAnswer, bufferAfter}
+use Rattle.record.specs.Answers.{readAnswer}
 use Rattle.search.specs.declared.Verdict.{Verdict}
 use Rattle.search.specs.declared.Verdict.the-variants.{Smaller, Nothing, Cut, Refused}
 use Rattle.search.specs.declared.Judged.{Judged}
 use Rattle.search.specs.Answer.{without, judgeAnswer, judgeBuffer}
-use Rattle.cafruzek.specs.Packing.{packed, packedExtent, packedWritten}
 
 -- ---- the arrangement that was lent
 

@@ -1,6 +1,6 @@
 -- The code of a line, verdict by verdict.
 use Prim.Native.Nat.{ℕ, min}
-use mathlib.Core.Path.{_≡_, sym, ap, _∙_}
+use mathlib.Core.Path.{_≡_}
 use mathlib.Core.List.{List, []}
 use lib.IntN.{ℤ}
 use lib.ListN.{length, take}

@@ -1,13 +1,12 @@
 -- The lines of a book, record after record.
-use Prim.Native.Nat.{ℕ, zero, suc, _-_, _≤_, _<_}
+use Prim.Native.Nat.{ℕ, zero, suc, _≤_, _<_}
 use native.Mathlib.Omega.{arith}
 use borrow.Author.Tests.{eq-eqb, ne-eqb, eqb-true, eqb-false}
-use mathlib.Core.Path.{_≡_, refl, sym, ap, _∙_}
+use mathlib.Core.Path.{_≡_, refl, ap, _∙_}
 use mathlib.Core.Logic.{⊎-elim}
 use mathlib.Core.Bool.{Bool, true, false}
 use mathlib.Core.List.{List, [], _∷_, _++_, append-nil}
-use lib.ListN.{length, drop, length-drop}
-use lib.Seq.{drop-drop}
+use lib.ListN.{length, length-drop}
 use lib.Dec.{eqb}
 use Rattle.laws.specs.Test.{pick}
 use Rattle.laws.specs.TestLaws.{holds-or-fails, pick-true, pick-false}

@@ -2,7 +2,7 @@
 use Prim.Native.Nat.{ℕ, _-_, _≤_, min}
 use native.Mathlib.Omega.{arith}
 use borrow.Author.Tests.{eq-eqb, ne-eqb}
-use mathlib.Core.Path.{_≡_, refl, sym, ap, _∙_}
+use mathlib.Core.Path.{_≡_, sym, ap, _∙_}
 use mathlib.Core.List.{List, _++_}
 use lib.IntN.{ℤ, pos}
 use lib.ListN.{length, take, drop, length-drop, length-replicate}
@@ -17,7 +17,6 @@ use Rattle.search.specs.Answer.{without, judgeAnswer, judgeBuffer}
 use Rattle.line.specs.Page.{poured}
 use Rattle.line.specs.Line.{judgedLine}
 use Rattle.line.proofs.Room.{line-room}
-use Rattle.listing.specs.declared.lines.Turn.{Turn}
 use Rattle.listing.specs.Listing.{budget, scratch, judgedRecord, literalsOf, recordLine}
 use Rattle.listing.specs.Progress.{Put}
 use Rattle.listing.proofs.Book.{order-small}
