@@ -1,21 +1,18 @@
 -- What the code builds for relabelling, composing and inverting, turn by turn.
-use Prim.Native.Nat.{ℕ, zero, suc, _+_, _-_, _*_, _/_, _%_, _≤_, _<_, _^_}
+use Prim.Native.Nat.{ℕ, suc, _+_, _-_, _*_, _/_, _%_, _≤_, _<_, _^_}
 use native.Mathlib.Omega.{arith}
-use native.Mathlib.Nat.{pow-suc, lt-of-lt-of-le, eq-or-lt-of-le}
 use native.Mathlib.Numerals.{add-one}
-use mathlib.Core.Path.{_≡_, refl, sym, ap, ap₂, _∙_}
-use mathlib.Core.Logic.{_⊎_, inl, inr, ⊎-elim}
-use mathlib.Core.List.{List, [], _∷_, _++_, append-assoc}
+use mathlib.Core.Path.{_≡_, refl, sym, ap, _∙_}
+use mathlib.Core.List.{List, [], _∷_, append-assoc}
 use lib.Count.{ones, ones-le}
-use lib.ListN.{length, getD, set, replicate, length-append, length-replicate}
-use lib.Pow.{pow-mono}
+use lib.ListN.{getD, set, replicate}
 use lib.Seq.{set-at}
 use mir.Syntax.{w32}
 use mir.Val.{Fits}
 use Rattle.laws.specs.Bit.{bit}
-use Rattle.laws.specs.UpTo.{sumUpTo, wordUpTo, listUpTo}
+use Rattle.laws.specs.UpTo.{wordUpTo, listUpTo}
 use Rattle.laws.specs.UpToLaws.{list-length}
-use Rattle.laws.specs.Loops.{sum-turns, word-turns}
+use Rattle.laws.specs.Loops.{word-turns, word-grows, word-fits}
 use Rattle.graph.specs.Graph.{row, placed, onesAt}
 use Rattle.graph.specs.Arrangement.{at, movedBit, movedRow, through, composed, inverse, placeOf}
 
@@ -51,15 +48,12 @@ pub moved-done : (rows p : List ℕ) (i m n s : ℕ) → s ≡ wordUpTo (movedBi
 unfolding movedRow
 moved-done rows p i m n s h a b = let q : m ≡ n = omega arith in h ∙ ap (wordUpTo (movedBit rows p i)) q
 
-bit-cases : (b : ℕ) → (b % 2 ≡ 0) ⊎ (b % 2 ≡ 1)
-bit-cases b = ⊎-elim (λ (q : b % 2 ≡ 1). inr q) (λ (q : b % 2 < 1). inl (omega arith)) (eq-or-lt-of-le {m = 1} (omega arith))
-
 -- a word of j bits with one more at j
-pub word-grows : (s r b j : ℕ) → s < 2 ^ j → r ≡ b % 2 * 2 ^ j → s + r < 2 ^ (j + 1)
-word-grows s r b j h e = rw (add-one j) (⊎-elim (λ (z : b % 2 ≡ 0). omega (arith, pow-suc 2 j, e ∙ ap (λ (x : ℕ). x * 2 ^ j) z)) (λ (z : b % 2 ≡ 1). omega (arith, pow-suc 2 j, e ∙ ap (λ (x : ℕ). x * 2 ^ j) z)) (bit-cases b))
+pub bit-grows : (s r b j : ℕ) → s < 2 ^ j → r ≡ b % 2 * 2 ^ j → s + r < 2 ^ (j + 1)
+bit-grows s r b j h e = word-grows s (b % 2) r j h (omega arith) e
 
-pub word-fits : (s r b j n : ℕ) → s < 2 ^ j → r ≡ b % 2 * 2 ^ j → j < n → n ≤ 32 → s + r < 2 ^ 32
-word-fits s r b j n h e l k = lt-of-lt-of-le (word-grows s r b j h e) (pow-mono {j = 32} (omega arith))
+pub bit-fits : (s r b j n : ℕ) → s < 2 ^ j → r ≡ b % 2 * 2 ^ j → j < n → n ≤ 32 → s + r < 2 ^ 32
+bit-fits s r b j n h e l k = word-fits s (b % 2) r j n h (omega arith) e l k
 
 -- ---- through, and counts
 

@@ -12,7 +12,8 @@ use borrow.Author.Tests.{eqb-true, eq-eqb, ne-eqb}
 use Rattle.laws.specs.Test.{both, either, pick}
 use Rattle.laws.specs.Bit.{bit}
 use Rattle.laws.specs.UpTo.{sumUpTo}
-use Rattle.laws.specs.SumLaws.{sumUpTo-same, sumUpTo-add, sumUpTo-past, sumUpTo-one, sumUpTo-le, sumFrom, sumFrom-upTo, sumFrom-same, sumFrom-add, sumAlong, sumAlong-append, ones-sum-low}
+use Rattle.laws.specs.UpToLaws.{sum-same, sum-added, sum-bound}
+use Rattle.laws.specs.SumLaws.{sumUpTo-past, sumUpTo-one, sumFrom, sumFrom-upTo, sumFrom-same, sumFrom-add, sumAlong, sumAlong-append, ones-sum-low}
 use Rattle.graph.specs.declared.Graph.{Graph}
 use Rattle.graph.specs.Graph.{row}
 use Rattle.graph.specs.WellFormed.{WellFormed}
@@ -102,9 +103,9 @@ unfolding pick
 touching-sum v a w n l h =
     let twice : 2 * sumAlong (entryOf (touching v a)) (pairs n) ≡ sumUpTo (λ i. a i v) n + sumUpTo (λ i. pick (eqb i v) (sumUpTo (a i) n) 0) n =
     pairs-sum (touching v a) (touching-mirrored v a w) n
-    ∙ sumUpTo-same (λ i. sumUpTo (touching v a i) n) (λ i. a i v + pick (eqb i v) (sumUpTo (a i) n) 0) n (λ i p q. touching-row v a w n i l h)
-    ∙ sumUpTo-add (λ i. a i v) (λ i. pick (eqb i v) (sumUpTo (a i) n) 0) n in
-    let column : sumUpTo (λ i. a i v) n ≡ sumUpTo (a v) n = sumUpTo-same (λ i. a i v) (a v) n (λ i p q. w .symmetric i v) in
+    ∙ sum-same (λ i. sumUpTo (touching v a i) n) (λ i. a i v + pick (eqb i v) (sumUpTo (a i) n) 0) n (λ i p q. touching-row v a w n i l h)
+    ∙ sum-added (λ i. a i v + pick (eqb i v) (sumUpTo (a i) n) 0) (λ i. a i v) (λ i. pick (eqb i v) (sumUpTo (a i) n) 0) n (λ i p q. refl) in
+    let column : sumUpTo (λ i. a i v) n ≡ sumUpTo (a v) n = sum-same (λ i. a i v) (a v) n (λ i p q. w .symmetric i v) in
     let here : sumUpTo (λ i. pick (eqb i v) (sumUpTo (a i) n) 0) n ≡ sumUpTo (a v) n =
     sumUpTo-one (λ i. pick (eqb i v) (sumUpTo (a i) n) 0) n v l h (λ i p q d. rw (ne-eqb i v d)) ∙ rw (eq-eqb v v refl) in
     omega arith
@@ -153,11 +154,11 @@ module _ (n : ℕ) (rows : List ℕ) (m : Marks n rows) where
   -- the ones of all rows count each marked pair twice
   pub marked-pairs : 2 * sumAlong (entryOf (markAt rows)) (pairs n) ≡ sumUpTo (rowOnes rows) n
   marked-pairs =
-      pairs-sum (markAt rows) (m .mirrored) n ∙ sumUpTo-same (λ i. sumUpTo (markAt rows i) n) (rowOnes rows) n (λ i p q. sym (rowOnes-sum i))
+      pairs-sum (markAt rows) (m .mirrored) n ∙ sum-same (λ i. sumUpTo (markAt rows i) n) (rowOnes rows) n (λ i p q. sym (rowOnes-sum i))
 
   -- a row has at most n
   pub rowOnes-le : (i : ℕ) → rowOnes rows i ≤ n
-  rowOnes-le i = rw (rowOnes-sum i) (omega (arith, sumUpTo-le (markAt rows i) n 1 (λ j p q. omega arith)))
+  rowOnes-le i = rw (rowOnes-sum i) (omega (arith, sum-bound (markAt rows i) 1 n (λ j p q. omega arith)))
 
   -- and rows past n add nothing
   pub rowOnes-further : (k : ℕ) → n ≤ k → sumUpTo (rowOnes rows) k ≡ sumUpTo (rowOnes rows) n
@@ -165,7 +166,7 @@ module _ (n : ℕ) (rows : List ℕ) (m : Marks n rows) where
 
   -- k rows of at most 32 columns have at most 32 * k, and so at most 1024 up to row 32
   pub ones-small : n ≤ 32 → (k : ℕ) → k ≤ 32 → sumUpTo (rowOnes rows) k ≤ 1024
-  ones-small l k h = omega (arith, sumUpTo-le (rowOnes rows) k 32 (λ i p q. le-trans (rowOnes-le i) l))
+  ones-small l k h = omega (arith, sum-bound (rowOnes rows) 32 k (λ i p q. le-trans (rowOnes-le i) l))
 
 -- ---- one entry
 

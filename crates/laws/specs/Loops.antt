@@ -1,12 +1,14 @@
 -- What a loop over 1..n needs of a test, a sum, a word or a list that it builds: where it starts, what a turn adds, what it has when it stops.
 use Prim.Native.Nat.{ℕ, _+_, _*_, _^_, _≤_, _<_}
+use native.Mathlib.Nat.{one-mul, pow-suc, mul-le-mul-right, lt-of-lt-of-le}
 use native.Mathlib.Numerals.{add-one}
 use native.Mathlib.Omega.{arith}
 use mathlib.Core.Path.{_≡_, refl, sym, ap, _∙_}
 use mathlib.Core.Bool.{Bool, true, false}
+use lib.Pow.{pow-mono}
 use Rattle.laws.specs.Test.{both}
-use Rattle.laws.specs.UpTo.{allUpTo, sumUpTo, wordUpTo, listUpTo}
-use Rattle.laws.specs.UpToLaws.{all-fail, word-below}
+use Rattle.laws.specs.UpTo.{allUpTo, sumUpTo, wordUpTo}
+use Rattle.laws.specs.UpToLaws.{all-fail}
 
 -- ---- a test of each
 
@@ -52,3 +54,12 @@ word-turns f n w r h e = rw (add-one n) (rw (← h, e, add-one n))
 
 pub word-done : (f : ℕ → ℕ) (m n w : ℕ) → w ≡ wordUpTo f m → m ≤ n → n ≤ m → w ≡ wordUpTo f n
 word-done f m n w h p q = let e : m ≡ n = omega arith in h ∙ ap (wordUpTo f) e
+
+-- a word of j bits with one more at j has j + 1 bits, and so it fits 32 where j is below some n that does
+pub word-grows : (w b r j : ℕ) → w < 2 ^ j → b ≤ 1 → r ≡ b * 2 ^ j → w + r < 2 ^ (j + 1)
+word-grows w b r j h l e =
+    let m : b * 2 ^ j ≤ 1 * 2 ^ j = mul-le-mul-right (2 ^ j) l in
+    rw (add-one j) (omega (arith, pow-suc 2 j, one-mul (2 ^ j)))
+
+pub word-fits : (w b r j n : ℕ) → w < 2 ^ j → b ≤ 1 → r ≡ b * 2 ^ j → j < n → n ≤ 32 → w + r < 2 ^ 32
+word-fits w b r j n h l e k m = lt-of-lt-of-le (word-grows w b r j h l e) (pow-mono {j = 32} (omega arith))

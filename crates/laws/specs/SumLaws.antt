@@ -1,5 +1,5 @@
 -- Sums of f 1, .., f n, of f along a list, and of a number's bits.
-use Prim.Native.Nat.{ℕ, zero, suc, _+_, _-_, _*_, _/_, _%_, _^_, _≤_, _<_}
+use Prim.Native.Nat.{ℕ, zero, suc, _+_, _-_, _/_, _%_, _^_, _≤_, _<_}
 use native.Mathlib.Nat.{lt-of-lt-of-le, div-one, div-div-eq-div-mul, pow-suc, pow-succ'}
 use native.Mathlib.Decide.{ℕ-discrete}
 use native.Mathlib.Omega.{arith}
@@ -11,20 +11,9 @@ use lib.Pow.{pow-mono}
 use lib.Count.{ones, ones-step}
 use Rattle.laws.specs.Bit.{bit}
 use Rattle.laws.specs.UpTo.{sumUpTo}
+use Rattle.laws.specs.UpToLaws.{sum-zero}
 
 -- ---- f 1 + .. + f n
-
--- two functions that agree on 1..n have the same sum
-pub sumUpTo-same : (f g : ℕ → ℕ) (n : ℕ) → ((i : ℕ) → 1 ≤ i → i ≤ n → f i ≡ g i) → sumUpTo f n ≡ sumUpTo g n
-unfolding sumUpTo
-sumUpTo-same f g zero h = refl
-sumUpTo-same f g (suc n) h = ap₂ _+_ (sumUpTo-same f g n (λ i l r. h i l (omega arith))) (h (suc n) (omega arith) (omega arith))
-
--- the sum of f + g is the sum of f and the sum of g
-pub sumUpTo-add : (f g : ℕ → ℕ) (n : ℕ) → sumUpTo (λ i. f i + g i) n ≡ sumUpTo f n + sumUpTo g n
-unfolding sumUpTo
-sumUpTo-add f g zero = refl
-sumUpTo-add f g (suc n) = omega (arith, sumUpTo-add f g n)
 
 -- a function that is 0 past n adds nothing there
 pub sumUpTo-past : (f : ℕ → ℕ) (n k : ℕ) → ((i : ℕ) → n < i → f i ≡ 0) → sumUpTo f (n + k) ≡ sumUpTo f n
@@ -35,29 +24,15 @@ sumUpTo-past f n (suc k) h =
     let z : f (suc (n + k)) ≡ 0 = h (suc (n + k)) (omega arith) in
     rw e (omega (arith, sumUpTo-past f n k h))
 
--- a function that is 0 on 1..n adds up to 0
-pub sumUpTo-none : (f : ℕ → ℕ) (n : ℕ) → ((i : ℕ) → 1 ≤ i → i ≤ n → f i ≡ 0) → sumUpTo f n ≡ 0
-unfolding sumUpTo
-sumUpTo-none f zero h = refl
-sumUpTo-none f (suc n) h =
-    let a : f (suc n) ≡ 0 = h (suc n) (omega arith) (omega arith) in
-    omega (arith, sumUpTo-none f n (λ i l r. h i l (omega arith)))
-
--- and one that is 0 on 1..n but at v adds up to its value there
+-- a function that is 0 on 1..n but at v adds up to its value there
 pub sumUpTo-one : (f : ℕ → ℕ) (n v : ℕ) → 1 ≤ v → v ≤ n → ((i : ℕ) → 1 ≤ i → i ≤ n → i ≢ v → f i ≡ 0) → sumUpTo f n ≡ f v
 unfolding sumUpTo
 sumUpTo-one f zero v l r h = absurd (omega arith)
 sumUpTo-one f (suc n) v l r h = go (λ q. sumUpTo-one f n v l q (λ i p s. h i p (omega arith))) (ℕ-discrete v (suc n))
   where
     go : (v ≤ n → sumUpTo f n ≡ f v) → Dec (v ≡ suc n) → sumUpTo f n + f (suc n) ≡ f v
-    go rest (yes e) = omega (arith, sumUpTo-none f n (λ i p s. h i p (omega arith) (omega arith)), ap f e)
+    go rest (yes e) = omega (arith, sum-zero f n (λ i p s. h i p (omega arith) (omega arith)), ap f e)
     go rest (no d) = omega (arith, rest (omega arith), h (suc n) (omega arith) (omega arith) (λ e. d (sym e)))
-
--- n numbers of at most b add up to at most n * b
-pub sumUpTo-le : (f : ℕ → ℕ) (n b : ℕ) → ((i : ℕ) → 1 ≤ i → i ≤ n → f i ≤ b) → sumUpTo f n ≤ n * b
-unfolding sumUpTo
-sumUpTo-le f zero b h = omega arith
-sumUpTo-le f (suc n) b h = omega (arith, sumUpTo-le f n b (λ i l r. h i l (omega arith)), h (suc n) (omega arith) (omega arith))
 
 -- ---- f i + f (i + 1) + ..
 

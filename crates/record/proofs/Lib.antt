@@ -13,3 +13,5 @@ pub mod RecordBits
 pub mod WrittenRead
 pub mod ReadWritten
 pub mod Refused
+pub mod TakenLaws
+pub mod LentReader

@@ -3,3 +3,4 @@ pub mod Reading
 pub mod Writing
 pub mod Answers
 pub mod Marks
+pub mod Reader

@@ -2,6 +2,7 @@
 // on that says whether it starts a block, 2 bits for each pair in row order, and zero bits to the end of the byte.
 mod bits;
 mod layout;
+pub mod reader;
 mod reading;
 mod writing;
 

@@ -1,32 +1,23 @@
 -- What the code does for a certificate: the mask of a path, its completion, and the pair at which it stands.
-use Prim.Native.Nat.{ℕ, zero, suc, _+_, _-_, _^_, _≤_, _<_}
+use Prim.Native.Nat.{ℕ, suc, _+_, _-_, _^_, _≤_, _<_}
 use native.Mathlib.Nat.{lt-of-lt-of-le}
 use native.Mathlib.Omega.{arith}
 use mathlib.Core.Path.{_≡_, refl, sym, ap, ap₂, subst, _∙_}
-use mathlib.Core.Logic.{_≢_}
 use mathlib.Core.List.{List, [], _∷_, _++_}
-use lib.Bits.{bitAnd}
-use lib.Count.{trailingZeros}
-use lib.Dec.{eqb}
-use lib.ListN.{length, getD, set, take, drop, replicate, length-set, length-take, take-append-drop}
+use lib.ListN.{length, getD, take, drop, length-take, take-append-drop}
 use lib.Pow.{pow-mono}
-use lib.Seq.{take-suc, take-suc-set, take-set-le, drop-set-lt, take-take, length-take-le, getD-take, take-length}
+use lib.Seq.{take-suc, take-take, getD-take}
 use borrow.Author.Tests.{eq-eqb, ne-eqb}
 use Rattle.laws.specs.Test.{pick}
-use Rattle.laws.specs.Masks.{members, no-members, not-empty, lowest-below, lowest-first}
-use Rattle.beginnings.specs.Beginning.{Beginning, children}
-use Rattle.beginnings.specs.Certificate.{completed, withFirst}
-use Rattle.beginnings.proofs.Children.{child-of-mem}
-use Rattle.beginnings.proofs.Follows.{Follows, length-more, follows-append, follows-start, beginning-follows, beginning-of}
-use Rattle.beginnings.proofs.Completed.{completed-none, completed-more, first-child, child-exists}
-use Rattle.graph.specs.Graph.{blockOf, placed}
+use Rattle.beginnings.specs.Beginning.{Beginning}
+use Rattle.beginnings.proofs.Follows.{Follows, follows-start, beginning-follows}
+use Rattle.graph.specs.Graph.{blockOf}
 use Rattle.graph.specs.Arrangement.{at}
 use Rattle.graph.specs.Pairs.{Pair, pair, alongRow, fromRow, pairs}
 use Rattle.graph.proofs.PairLaws.{fromRow-split}
-use Rattle.search.specs.Judging.{padded}
-use Rattle.search.specs.Masks.{usedMask, blockMask}
+use Rattle.search.specs.Masks.{usedMask}
 use Rattle.search.specs.Code.{firstPair, Within}
-use Rattle.search.proofs.MaskLaws.{used-more, used-below, mask-children, mask-fits}
+use Rattle.search.proofs.MaskLaws.{used-more, used-below}
 
 -- ---- the mask of a path
 

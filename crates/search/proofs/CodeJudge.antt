@@ -1,9 +1,8 @@
 -- What the code of judging comes to.
-use Prim.Native.Nat.{ℕ, zero, suc, _+_, _-_, _*_, _/_, _^_, _≤_, _<_}
+use Prim.Native.Nat.{ℕ, zero, suc, _-_, _*_, _/_, _^_, _≤_, _<_}
 use native.Mathlib.Nat.{lt-of-le-of-lt, mul-le-mul, div-le-self}
 use native.Mathlib.Omega.{arith}
-use mathlib.Core.Path.{_≡_, refl, sym, ap, ap₂, subst, _∙_}
-use mathlib.Core.Logic.{_≢_}
+use mathlib.Core.Path.{_≡_, refl, sym, ap, _∙_}
 use mathlib.Core.Bool.{Bool, true, false}
 use mathlib.Core.List.{List, [], _∷_, _++_}
 use lib.Dec.{leb, eqb, lit<}
@@ -11,10 +10,10 @@ use lib.IntN.{ℤ}
 use lib.ListN.{length, take, drop, replicate}
 use lib.Seq.{length-take-le}
 use borrow.Author.Tests.{eq-eqb, ne-eqb, leb-true}
-use Rattle.laws.specs.Test.{pick, unless}
+use Rattle.laws.specs.Test.{pick}
 use Rattle.laws.specs.TestLaws.{refused, passed}
 use Rattle.laws.specs.Each.{Each, each-first, each-rest}
-use Rattle.walk.specs.Walk.{Turn, wins, goes-on, loses, step, Outcome, won, lost, still-open, ending, turn, walk}
+use Rattle.walk.specs.Walk.{Turn, wins, goes-on, loses, Outcome, won, ending, turn, walk}
 use Rattle.beginnings.specs.Beginning.{Beginning}
 use Rattle.beginnings.specs.Search.{cut, none, first}
 use Rattle.beginnings.specs.Search
@@ -28,14 +27,14 @@ use Rattle.graph.specs.Arrangement.{at, Permitted, isPermitted}
 use Rattle.graph.specs.Pairs.{Pair, pair, pairs, pairCount, entryAt}
 use Rattle.graph.proofs.Formed.{formed}
 use Rattle.graph.proofs.Permits.{permitted-tested}
-use Rattle.search.specs.declared.Verdict.{Verdict}
 use Rattle.search.specs.declared.Verdict.the-variants.{Smaller, Nothing, Cut, Refused}
 use Rattle.search.specs.declared.explore.Explored.{Explored}
 use Rattle.search.specs.declared.Judged.{Judged}
-use Rattle.search.specs.Judging.{samePair, image, walkAll, clauseOf, judged, judgementOf, judgedOn, found, padded, certificateOf}
+use Rattle.search.specs.Judging.{samePair, image, walkAll, clauseOf, judged, judgedOn, found, padded, certificateOf}
 use Rattle.search.specs.Answer.{without, standingPair, smaller, answerFor, judgeAnswer, atStart, judgeBuffer}
 use Rattle.search.specs.Code.{codeOf, turnAt, firstPair, Within, foundBy}
-use Rattle.search.proofs.Arrangements.{entry-of-image, padded-permitted}
+use Rattle.search.proofs.Arrangements.{padded-permitted}
+use Rattle.search.proofs.TurnCodes.{turn-codes}
 use Rattle.search.proofs.Judgements.{of-won}
 use Rattle.search.proofs.Certificates.{certificate-walk}
 
@@ -60,10 +59,6 @@ first-won v img t [] k h e = cc
 first-won v img t (j ∷ ks) k h e =
     ap (λ (c : ℕ). pick (eqb c 0) (firstPair t ks) j) (sym (each-first (λ i. codeOf (turn samePair v img i) ≡ t i) h))
     ∙ by-turn (turn samePair v img j) j (walk samePair v img ks) k (firstPair t ks) e (first-won v img t ks k (each-rest (λ i. codeOf (turn samePair v img i) ≡ t i) h))
-
-turn-codes : (g : Graph) → WellFormed g → (p : List ℕ) (k : Pair) → codeOf (turn samePair (entryAt g) (image p) k) ≡ turnAt (g .edges) (g .unknowns) p k
-unfolding turnAt
-turn-codes g w p k = ap (λ (x : ℕ). codeOf (step (entryAt g k) x (samePair (image p k) k))) (entry-of-image g w p k)
 
 pub taken-long : (g : Graph) → wellFormed g ≡ true → (start : List ℕ) (depth : ℕ) → length start ≡ 32 → depth ≤ g .order → length (take depth start) ≡ depth
 taken-long g w start depth l d = length-take-le depth start (omega (arith, formed g w .order-high))

@@ -1,17 +1,15 @@
 -- What the code's masks come to.
-use Prim.Native.Nat.{ℕ, suc, _+_, _-_, _*_, _/_, _%_, _^_, _≤_, _<_}
-use native.Mathlib.Nat.{one-mul, pow-suc, lt-of-lt-of-le, mul-le-mul-right}
-use native.Mathlib.Numerals.{add-one}
+use Prim.Native.Nat.{ℕ, _+_, _-_, _*_, _/_, _%_, _^_, _≤_, _<_}
+use native.Mathlib.Nat.{one-mul}
 use native.Mathlib.Omega.{arith}
-use mathlib.Core.Path.{_≡_, sym, ap, ap₂, _∙_}
+use mathlib.Core.Path.{_≡_, ap, ap₂, _∙_}
 use mathlib.Core.List.{List}
 use lib.Bits.{bitAnd, and-le-l}
 use lib.Dec.{eqb}
 use lib.ListN.{set}
-use lib.Pow.{pow-mono}
 use borrow.Author.Tests.{eq-eqb, ne-eqb}
 use Rattle.laws.specs.Test.{pick}
-use Rattle.laws.specs.UpTo.{wordUpTo, sumUpTo}
+use Rattle.laws.specs.UpTo.{wordUpTo}
 use Rattle.laws.specs.UpToLaws.{word-same}
 use Rattle.laws.specs.Loops.{word-turns, word-done, sum-turns}
 use Rattle.graph.specs.Graph.{blockOf, startAt, placed}
@@ -51,14 +49,6 @@ same-failed numbers i v e = rw (ne-eqb (at numbers v) (at numbers i) e)
 
 pub mask-more : (f : ℕ → ℕ) (j w b r : ℕ) → w ≡ wordUpTo f j → b ≡ f (j + 1) → r ≡ b * 2 ^ j → w + r ≡ wordUpTo f (j + 1)
 mask-more f j w b r h e k = word-turns f j w r h (k ∙ ap (λ (x : ℕ). x * 2 ^ j) e)
-
-pub mask-grows : (w b r j : ℕ) → w < 2 ^ j → b ≤ 1 → r ≡ b * 2 ^ j → w + r < 2 ^ (j + 1)
-mask-grows w b r j h l e =
-    let m : b * 2 ^ j ≤ 1 * 2 ^ j = mul-le-mul-right (2 ^ j) l in
-    rw (add-one j) (omega (arith, pow-suc 2 j, one-mul (2 ^ j)))
-
-pub mask-fits : (w b r j n : ℕ) → w < 2 ^ j → b ≤ 1 → r ≡ b * 2 ^ j → j < n → n ≤ 32 → w + r < 2 ^ 32
-mask-fits w b r j n h l e k m = lt-of-lt-of-le (mask-grows w b r j h l e) (pow-mono {j = 32} (omega arith))
 
 pub mask-done : (block : ℕ → ℕ) (i m n w : ℕ) → w ≡ wordUpTo (sameBlock block i) m → m ≤ n → n ≤ m → w ≡ blockMask block n i
 unfolding blockMask

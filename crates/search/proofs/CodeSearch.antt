@@ -1,106 +1,154 @@
 -- The ways round the search's loop, as its code meets them.
-use Prim.Native.Nat.{ℕ, zero, suc, _+_, _-_, _^_, _≤_, _<_}
+use Prim.Native.Nat.{ℕ, suc, _+_, _-_, _^_, _≤_, _<_}
 use native.Mathlib.Nat.{lt-of-lt-of-le}
 use native.Mathlib.Omega.{arith}
 use mathlib.Core.Path.{_≡_, refl, sym, ap, _∙_}
 use mathlib.Core.Logic.{_≢_}
 use mathlib.Core.Bool.{true}
-use mathlib.Core.List.{List}
+use mathlib.Core.List.{List, [], _∷_, _++_}
 use lib.Bits.{bitAnd}
 use lib.Count.{trailingZeros}
 use lib.ListN.{getD, set, take, drop}
 use lib.Pow.{pow-mono}
 use Rattle.laws.specs.Test.{pick}
+use Rattle.laws.specs.Bit.{bit}
+use Rattle.beginnings.specs.Search.{Found, cut, none, first, won}
+use Rattle.graph.specs.Graph.{row}
+use Rattle.graph.specs.Pairs.{fromRow}
 use Rattle.graph.specs.WellFormed.{wellFormed}
 use Rattle.graph.proofs.Formed.{formed}
 use Rattle.search.specs.declared.explore.Explored.{Explored}
-use Rattle.search.specs.Judging.{found}
-use Rattle.search.specs.Code.{lastCode, Within, graphIn, foundBy}
-use Rattle.search.proofs.Searching.{Searching, path-vertex, over, climbed, place-fits, weight-within, cut-short, next-within, next-kept, used-within, won-found, lost-stays, full-stays, deepened, weight-used}
+use Rattle.search.specs.Judging.{judged, found}
+use Rattle.search.specs.Code.{Within, Stopped, turnAt, walkCode, graphIn, foundBy}
+use Rattle.search.proofs.Searching.{Searching, path-vertex, over, climbed, used-within}
+use Rattle.search.proofs.StopLaws.{ByStop}
+use Rattle.search.proofs.Trying.{place-fits, weight-within, weight-used, cut-short, next-within, next-kept, by-its-stop, won-found, lost-stays, full-stays, deepened}
 
 pub order-bounded : (n : ℕ) (e u : List ℕ) (s : ℕ) → wellFormed (graphIn n e u s) ≡ true → n ≤ 32
 order-bounded n e u s h = formed (graphIn n e u s) h .order-high
 
-abbrev pub ended : ℕ → ℕ → ℕ → Explored
-ended kind steps depth = record { kind = kind; steps = steps; depth = depth }
+-- ---- what an ended search tells
 
-module _ (n : ℕ) (e u : List ℕ) (b : ℕ) (budget : ℕ) (blocks path₀ path untried : List ℕ) (used depth steps : ℕ) (s : Searching (graphIn n e u b) budget blocks path₀ path untried used depth steps) where
+module _ (r : Explored) (p : List ℕ) (f : Found) where
+  told-none : r .kind ≡ 0 → (steps : ℕ) → r .steps ≡ steps → none steps ≡ f → foundBy r p ≡ f
+  unfolding foundBy pick
+  told-none k steps c h = rw (k, c) h
+
+  told-cut : r .kind ≡ 2 → cut ≡ f → foundBy r p ≡ f
+  unfolding foundBy pick
+  told-cut k h = rw k h
+
+  told-first : r .kind ≡ 1 → (steps depth : ℕ) → r .steps ≡ steps → r .depth ≡ depth → first (take depth p) steps ≡ f → foundBy r p ≡ f
+  unfolding foundBy pick
+  told-first k steps depth c d h = rw (k, c, d) h
+
+module _ (n : ℕ) (e u : List ℕ) (b : ℕ) (budget : ℕ) (blocks path₀ path untried stops : List ℕ) (left used depth steps : ℕ) (s : Searching (graphIn n e u b) budget blocks path₀ path untried stops left used depth steps) where
   -- the places after n are as they were
   pub path-kept : drop n path ≡ drop n path₀
   path-kept = s .kept
 
   -- ---- nothing is left at this depth
 
-  pub ends-none : getD untried depth 0 ≡ 0 → depth ≡ 0 → foundBy (ended 0 steps 0) path ≡ found (graphIn n e u b) budget
-  unfolding foundBy pick
-  ends-none z h = over (graphIn n e u b) budget blocks path₀ path untried used depth steps s z h
+  pub ends-none : left ≡ 0 → depth ≡ 0 → (r : Explored) → r .kind ≡ 0 → r .steps ≡ steps → foundBy r path ≡ found (graphIn n e u b) budget
+  ends-none z h r k c =
+      told-none r path (found (graphIn n e u b) budget) k steps c (over (graphIn n e u b) budget blocks path₀ path untried stops left used depth steps s z h)
 
   module _ (some : depth ≢ 0) where
     pub last-low : 1 ≤ getD path (depth - 1) 0
-    last-low = path-vertex (graphIn n e u b) budget blocks path₀ path depth s (depth - 1) (omega arith) .0
+    last-low = path-vertex (graphIn n e u b) budget blocks path₀ path untried stops left used depth steps s (depth - 1) (omega arith) .0
 
     pub last-high : getD path (depth - 1) 0 ≤ 32
-    last-high = omega (arith, path-vertex (graphIn n e u b) budget blocks path₀ path depth s (depth - 1) (omega arith) .1, s .formed .order-high)
+    last-high =
+        omega (arith, path-vertex (graphIn n e u b) budget blocks path₀ path untried stops left used depth steps s (depth - 1) (omega arith) .1, s .formed .order-high)
 
     module _ (w : ℕ) (q : w ≡ 2 ^ (getD path (depth - 1) 0 - 1)) where
       pub last-used : w ≤ used
-      last-used = used-within (graphIn n e u b) budget blocks path₀ path untried used depth steps s (depth - 1) w (omega arith) q
+      last-used = used-within (graphIn n e u b) budget blocks path₀ path untried stops left used depth steps s (depth - 1) w (omega arith) q
 
-      pub climbs : getD untried depth 0 ≡ 0 → Searching (graphIn n e u b) budget blocks path₀ path untried (used - w) (depth - 1) steps
-      climbs z = climbed (graphIn n e u b) budget blocks path₀ path untried used depth steps s z (depth - 1) w (omega arith) q
+      pub climbs : left ≡ 0 → Searching (graphIn n e u b) budget blocks path₀ path untried stops (getD untried (depth - 1) 0) (used - w) (depth - 1) steps
+      climbs z = climbed (graphIn n e u b) budget blocks path₀ path untried stops left used depth steps s z (depth - 1) w (omega arith) q
 
   -- ---- the lowest untried vertex is tried
 
-  module _ (some : getD untried depth 0 ≢ 0) where
-    pub ends-cut : steps ≡ budget → foundBy (ended 2 steps 0) path ≡ found (graphIn n e u b) budget
-    unfolding foundBy pick
-    ends-cut h =
-        cut-short (graphIn n e u b) budget blocks path₀ path untried used depth steps s (getD untried depth 0) (trailingZeros 32 (getD untried depth 0)) refl some refl h
+  module _ (some : left ≢ 0) where
+    pub ends-cut : steps ≡ budget → (r : Explored) → r .kind ≡ 2 → foundBy r path ≡ found (graphIn n e u b) budget
+    ends-cut h r k =
+        told-cut r path (found (graphIn n e u b) budget) k
+        (cut-short (graphIn n e u b) budget blocks path₀ path untried stops left used depth steps s some (trailingZeros 32 left) refl h)
 
-    module _ (t : ℕ) (q : t ≡ trailingZeros 32 (getD untried depth 0)) where
+    module _ (t : ℕ) (q : t ≡ trailingZeros 32 left) where
       pub low-place : t < 32
-      low-place = place-fits (graphIn n e u b) budget blocks path₀ path untried used depth steps s (getD untried depth 0) t refl some q
+      low-place = place-fits (graphIn n e u b) budget blocks path₀ path untried stops left used depth steps s some t q
 
-      pub mask-holds : (w : ℕ) → w ≡ 2 ^ t → w ≤ getD untried depth 0
-      mask-holds w k = rw k (weight-within (graphIn n e u b) budget blocks path₀ path untried used depth steps s (getD untried depth 0) t refl some q)
+      module _ (w : ℕ) (k : w ≡ 2 ^ t) where
+        pub mask-holds : w ≤ left
+        mask-holds = rw k (weight-within (graphIn n e u b) budget blocks path₀ path untried stops left used depth steps s some t q)
 
-      pub used-fits : (w : ℕ) → w ≡ 2 ^ t → used + w < 2 ^ 32
-      used-fits w k =
-          rw k
-          (lt-of-lt-of-le (weight-used (graphIn n e u b) budget blocks path₀ path untried used depth steps s (getD untried depth 0) t refl some q)
-          (pow-mono {j = 32} (s .formed .order-high)))
+        pub used-fits : used + w < 2 ^ 32
+        used-fits =
+            rw k
+            (lt-of-lt-of-le (weight-used (graphIn n e u b) budget blocks path₀ path untried stops left used depth steps s some t q) (pow-mono {j = 32} (s .formed .order-high)))
 
       module _ (v : ℕ) (p : v ≡ t + 1) where
         next : set path depth v ≡ set path depth (t + 1)
         next = ap (set path depth) p
 
-        pub longer-within : Within (depth + 1) (set path depth v)
-        longer-within = next-within (graphIn n e u b) budget blocks path₀ path untried used depth steps s (getD untried depth 0) t refl some q (set path depth v) next
+        pub longer-within : n ≤ depth + 1 → Within n (set path depth v)
+        longer-within h =
+            let all : depth + 1 ≡ n = omega (arith, s .shallow) in
+            rw all at (next-within (graphIn n e u b) budget blocks path₀ path untried stops left used depth steps s some t q (set path depth v) next)
 
         pub longer-kept : drop n (set path depth v) ≡ drop n path₀
-        longer-kept = next-kept (graphIn n e u b) budget blocks path₀ path untried used depth steps s (getD untried depth 0) t refl some q (set path depth v) next
+        longer-kept = next-kept (graphIn n e u b) budget blocks path₀ path untried stops left used depth steps s some t q (set path depth v) next
 
-        module _ (r : ℕ) (c : r ≡ lastCode e u (set path depth v) n (depth + 1)) (unspent : steps ≢ budget) where
-          pub ends-first : r ≡ 2 → foundBy (ended 1 (steps + 1) (depth + 1)) (set path depth v) ≡ found (graphIn n e u b) budget
-          unfolding foundBy pick
-          ends-first h = won-found (graphIn n e u b) budget blocks path₀ path untried used depth steps s (getD untried depth 0) t refl some q (set path depth v) next r c unspent h
+        -- the beginning that is tried
+        abbrev longer : List ℕ
+        longer = take depth path ++ (suc t ∷ [])
 
-          module _ (w : ℕ) (k : w ≡ 2 ^ t) where
-            masked : set untried depth (getD untried depth 0 - w) ≡ set untried depth (getD untried depth 0 - 2 ^ t)
-            masked = ap (λ (x : ℕ). set untried depth (getD untried depth 0 - x)) k
+        judges : ByStop (graphIn n e u b) longer (suc depth) (bit (getD stops depth 0) t) (bit (row e 1) depth) (walkCode (turnAt e u (set path depth v)) (fromRow 2 (n - 2)))
+        judges = by-its-stop (graphIn n e u b) budget blocks path₀ path untried stops left used depth steps s some t q (set path depth v) next
 
-            pub past-lost : r ≢ 2 → r ≢ 0
-                → Searching (graphIn n e u b) budget blocks path₀ (set path depth v) (set untried depth (getD untried depth 0 - w)) used depth (steps + 1)
-            past-lost = lost-stays (graphIn n e u b) budget blocks path₀ path untried used depth steps s (getD untried depth 0) t refl some q (set path depth v) next r c unspent (set untried depth (getD untried depth 0 - w)) masked
+        module _ (unspent : steps ≢ budget) where
+          found-won : judged (graphIn n e u b) longer ≡ won → (r : Explored) → r .kind ≡ 1 → r .steps ≡ steps + 1 → r .depth ≡ depth + 1 → foundBy r (set path depth v) ≡ found (graphIn n e u b) budget
+          found-won h r i j l =
+              told-first r (set path depth v) (found (graphIn n e u b) budget) i (steps + 1) (depth + 1) j l
+              (won-found (graphIn n e u b) budget blocks path₀ path untried stops left used depth steps s some t q (set path depth v) next unspent h)
 
-            pub past-full : r ≢ 2 → n ≤ depth + 1
-                → Searching (graphIn n e u b) budget blocks path₀ (set path depth v) (set untried depth (getD untried depth 0 - w)) used depth (steps + 1)
-            past-full = full-stays (graphIn n e u b) budget blocks path₀ path untried used depth steps s (getD untried depth 0) t refl some q (set path depth v) next r c unspent (set untried depth (getD untried depth 0 - w)) masked
+          -- at a stop
+          module _ (ones : ℕ) (o : ones ≡ row e 1) (y : bit (getD stops depth 0) t ≡ 1) where
+            edge-is : bit ones depth ≡ bit (row e 1) depth
+            edge-is = ap (λ (x : ℕ). bit x depth) o
 
-            pub goes-deeper : (x fresh : ℕ) → x ≡ 2 ^ t → fresh ≡ getD blocks (depth + 1) 0 - bitAnd (getD blocks (depth + 1) 0) (used + x) → depth + 1 < n → r ≡ 0
-                → Searching (graphIn n e u b) budget blocks path₀ (set path depth v) (set (set untried depth (getD untried depth 0 - w)) (depth + 1) fresh) (used + x) (depth + 1) (steps + 1)
-            goes-deeper x fresh h f l z =
-                rw h
-                (deepened (graphIn n e u b) budget blocks path₀ path untried used depth steps s (getD untried depth 0) t refl some q (set path depth v) next r c unspent
-                (set untried depth (getD untried depth 0 - w)) masked (getD blocks (depth + 1) 0) fresh refl (rw h at f) l z
-                (set (set untried depth (getD untried depth 0 - w)) (depth + 1) fresh) refl)
+            pub ends-at-stop : bit ones depth ≡ 1 → (r : Explored) → r .kind ≡ 1 → r .steps ≡ steps + 1 → r .depth ≡ depth + 1
+                → foundBy r (set path depth v) ≡ found (graphIn n e u b) budget
+            ends-at-stop a = found-won (judges .stop-wins y (sym edge-is ∙ a))
+
+            pub past-stop : bit ones depth ≢ 1 → (w : ℕ) → w ≡ 2 ^ t
+                → Searching (graphIn n e u b) budget blocks path₀ (set path depth v) untried stops (left - w) used depth (steps + 1)
+            past-stop a w k =
+                rw k
+                (lost-stays (graphIn n e u b) budget blocks path₀ path untried stops left used depth steps s some t q (set path depth v) next unspent (judges .stop-loses y (λ x. a (edge-is ∙ x))))
+
+          -- elsewhere
+          module _ (y : bit (getD stops depth 0) t ≢ 1) where
+            module _ (l : n ≤ depth + 1) (c : ℕ) (x : c ≡ walkCode (turnAt e u (set path depth v)) (fromRow 2 (n - 2))) where
+              pub ends-full : c ≡ 2 → (r : Explored) → r .kind ≡ 1 → r .steps ≡ steps + 1 → r .depth ≡ depth + 1
+                  → foundBy r (set path depth v) ≡ found (graphIn n e u b) budget
+              ends-full a = found-won (judges .full-wins y (omega arith) (sym x ∙ a))
+
+              pub past-full : c ≢ 2 → (w : ℕ) → w ≡ 2 ^ t
+                  → Searching (graphIn n e u b) budget blocks path₀ (set path depth v) untried stops (left - w) used depth (steps + 1)
+              past-full a w k =
+                  rw k
+                  (full-stays (graphIn n e u b) budget blocks path₀ path untried stops left used depth steps s some t q (set path depth v) next unspent (omega arith)
+                  (judges .full-fails y (omega arith) (λ z. a (x ∙ z))))
+
+            pub goes-deeper : depth + 1 < n → (w : ℕ) → w ≡ 2 ^ t → (after : List ℕ) → Stopped e u n depth (t + 1) stops after
+                → (fresh : ℕ) → fresh ≡ getD blocks (depth + 1) 0 - bitAnd (getD blocks (depth + 1) 0) (used + w)
+                → Searching (graphIn n e u b) budget blocks path₀ (set path depth v) (set untried depth (left - w)) after fresh (used + w) (depth + 1) (steps + 1)
+            goes-deeper l w k after o fresh f =
+                let one : depth + 1 ≡ suc depth = omega arith in
+                rw k
+                (deepened (graphIn n e u b) budget blocks path₀ path untried stops left used depth steps s some t q (set path depth v) next unspent (omega arith)
+                (judges .short-open y (omega arith)) (getD blocks (depth + 1) 0) fresh (ap (λ (i : ℕ). getD blocks i 0) one) (rw k at f)
+                (set untried depth (left - 2 ^ t)) refl after o)

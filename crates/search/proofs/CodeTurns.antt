@@ -4,40 +4,16 @@ use native.Mathlib.Omega.{arith}
 use mathlib.Core.Path.{_≡_, refl, sym, ap, _∙_}
 use mathlib.Core.Bool.{Bool, true, false}
 use mathlib.Core.List.{List, [], _∷_, _++_}
-use lib.Dec.{eqb, ltb}
+use lib.Dec.{eqb}
 use borrow.Author.Tests.{eq-eqb, ne-eqb, lt-ltb, le-ltb}
-use Rattle.laws.specs.Test.{both, either, pick}
-use Rattle.walk.specs.Walk.{step}
-use Rattle.graph.specs.Graph.{entryIn}
+use Rattle.laws.specs.Test.{both, pick}
+use Rattle.laws.specs.Bit.{bit}
+use Rattle.graph.specs.Graph.{row}
 use Rattle.graph.specs.Arrangement.{at}
 use Rattle.graph.specs.Pairs.{Pair, pair, alongRow, fromRow}
 use Rattle.graph.proofs.PairLaws.{fromRow-split}
-use Rattle.search.specs.Judging.{samePair, pairOfTwo, image}
-use Rattle.search.specs.Code.{codeOf, turnAt, walkCode, Within}
-
--- ---- one step
-
-module _ (a b : ℕ) (own : Bool) where
-  pub step-wins : a ≡ 1 → b ≡ 0 → 2 ≡ codeOf (step a b own)
-  unfolding codeOf step both pick
-  step-wins p q = rw (eq-eqb a 1 p, eq-eqb b 0 q)
-
-  pub step-edge : a ≡ 1 → (b ≡ 0 → ⊥) → 0 ≡ codeOf (step a b own)
-  unfolding codeOf step both either pick
-  step-edge p q = rw (eq-eqb a 1 p, ne-eqb b 0 q)
-
-  module _ (p : a ≡ 1 → ⊥) where
-    pub step-gap : b ≡ 0 → 0 ≡ codeOf (step a b own)
-    unfolding codeOf step both either pick
-    step-gap q = rw (ne-eqb a 1 p, eq-eqb b 0 q)
-
-    pub step-own : (b ≡ 0 → ⊥) → own ≡ true → 0 ≡ codeOf (step a b own)
-    unfolding codeOf step both either pick
-    step-own q r = rw (ne-eqb a 1 p, ne-eqb b 0 q, r)
-
-    pub step-loses : (b ≡ 0 → ⊥) → own ≡ false → 1 ≡ codeOf (step a b own)
-    unfolding codeOf step both either pick
-    step-loses q r = rw (ne-eqb a 1 p, ne-eqb b 0 q, r)
+use Rattle.search.specs.Judging.{samePair, pairOfTwo}
+use Rattle.search.specs.Code.{marksOf, turnBy, turnAt, walkCode, Within}
 
 -- ---- a pair and its image
 
@@ -60,10 +36,31 @@ module _ (i j u v : ℕ) where
     unfolding samePair pairOfTwo pick both
     own-not-falling e = rw (le-ltb u v l, ne-eqb v i e)
 
-pub turn-is : (e w p : List ℕ) (i j u v a b r : ℕ) (own : Bool) → u ≡ at p i → v ≡ at p j → a ≡ entryIn e w i j → b ≡ entryIn e w u v
-    → own ≡ samePair (pairOfTwo u v) (pair i j) → r ≡ codeOf (step a b own) → r ≡ turnAt e w p (pair i j)
-unfolding turnAt image
-turn-is e w p i j u v a b r own pu pv pa pb po h = h ∙ rw (pa, pb, po, pu, pv)
+-- ---- one pair
+
+module _ (ones marks i j u v : ℕ) where
+  pub turn-same : bit ones (j - 1) ≡ bit marks (v - 1) → 0 ≡ turnBy ones marks i j u v
+  unfolding turnBy pick
+  turn-same e = rw (eq-eqb (bit ones (j - 1)) (bit marks (v - 1)) e)
+
+  module _ (d : bit ones (j - 1) ≡ bit marks (v - 1) → ⊥) where
+    pub turn-wins : bit ones (j - 1) ≡ 1 → 2 ≡ turnBy ones marks i j u v
+    unfolding turnBy pick
+    turn-wins e = rw (ne-eqb (bit ones (j - 1)) (bit marks (v - 1)) d, eq-eqb (bit ones (j - 1)) 1 e)
+
+    module _ (z : bit ones (j - 1) ≡ 1 → ⊥) (own : Bool) (s : own ≡ samePair (pairOfTwo u v) (pair i j)) where
+      pub turn-own : own ≡ true → 0 ≡ turnBy ones marks i j u v
+      unfolding turnBy pick
+      turn-own e = rw (ne-eqb (bit ones (j - 1)) (bit marks (v - 1)) d, ne-eqb (bit ones (j - 1)) 1 z, sym s ∙ e)
+
+      pub turn-loses : own ≡ false → 1 ≡ turnBy ones marks i j u v
+      unfolding turnBy pick
+      turn-loses e = rw (ne-eqb (bit ones (j - 1)) (bit marks (v - 1)) d, ne-eqb (bit ones (j - 1)) 1 z, sym s ∙ e)
+
+pub turn-is : (e w p : List ℕ) (i j u v ones marks r : ℕ) → u ≡ at p i → v ≡ at p j → ones ≡ row e i → marks ≡ marksOf e w u
+    → r ≡ turnBy ones marks i j u v → r ≡ turnAt e w p (pair i j)
+unfolding turnAt
+turn-is e w p i j u v ones marks r pu pv po pm h = h ∙ rw (po, pm, pu, pv)
 
 -- ---- along a row
 
@@ -72,6 +69,13 @@ within-low k p i w l h = w .low i l h
 
 pub within-high : (k : ℕ) (p : List ℕ) (i : ℕ) → Within k p → 1 ≤ i → i ≤ k → at p i ≤ 32
 within-high k p i w l h = w .high i l h
+
+-- a vertex that was read there
+pub vertex-low : (k : ℕ) (p : List ℕ) (i v : ℕ) → Within k p → v ≡ at p i → 1 ≤ i → i ≤ k → 1 ≤ v
+vertex-low k p i v w e l h = rw e (w .low i l h)
+
+pub vertex-high : (k : ℕ) (p : List ℕ) (i v : ℕ) → Within k p → v ≡ at p i → 1 ≤ i → i ≤ k → v ≤ 32
+vertex-high k p i v w e l h = rw e (w .high i l h)
 
 module _ (t : Pair → ℕ) where
   code-first : (k : Pair) (ks : List Pair) → (t k ≡ 0 → ⊥) → walkCode t (k ∷ ks) ≡ t k

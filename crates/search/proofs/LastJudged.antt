@@ -1,29 +1,25 @@
--- The code of the last place is the judgement of the beginning that ends there.
-use Prim.Native.Nat.{ℕ, zero, suc, _-_, _≤_, _<_}
-use native.Mathlib.Nat.{eq-or-lt-of-le}
+-- How a beginning is judged, by the pairs that come with its last vertex.
+use Prim.Native.Nat.{ℕ, suc, _-_, _≤_, _<_}
 use native.Mathlib.Omega.{arith}
 use mathlib.Core.Path.{_≡_, refl, sym, ap, ap₂, _∙_}
-use mathlib.Core.Logic.{_≢_, ⊎-elim}
-use mathlib.Core.List.{List, [], _∷_, _++_, List·Memᴰ}
-use lib.Dec.{eqb, ltb}
+use mathlib.Core.Logic.{_≢_}
+use mathlib.Core.List.{List, [], _∷_, _++_}
+use lib.Dec.{eqb}
 use lib.ListN.{length, getD, take, List·getD-append}
 use lib.Seq.{getD-take, getD-at}
-use borrow.Author.Tests.{lt-ltb, le-ltb}
 use Rattle.laws.specs.Test.{pick}
 use Rattle.laws.specs.Each.{Each, each-first, each-rest}
-use Rattle.walk.specs.Walk.{Turn, wins, goes-on, loses, step, Outcome, won, lost, still-open, ending, turn, walk}
+use Rattle.walk.specs.Walk.{Turn, wins, goes-on, loses, Outcome, won, lost, still-open, ending, turn, walk}
 use Rattle.beginnings.specs.Search.{Judgement}
 use Rattle.beginnings.specs.Search
-use Rattle.beginnings.proofs.Follows.{length-more}
 use Rattle.graph.specs.declared.Graph.{Graph}
-use Rattle.graph.specs.Graph.{entry}
 use Rattle.graph.specs.WellFormed.{WellFormed}
 use Rattle.graph.specs.Arrangement.{at}
 use Rattle.graph.specs.Pairs.{Pair, pair, fromRow, entryAt}
 use Rattle.graph.proofs.PairLaws.{fromRow-given}
-use Rattle.search.specs.Judging.{samePair, pairOfTwo, image, judged, judgementOf}
-use Rattle.search.specs.Code.{codeOf, turnAt, walkCode, lastCode}
-use Rattle.search.proofs.Arrangements.{entry-of-image}
+use Rattle.search.specs.Judging.{samePair, image, judged, judgementOf}
+use Rattle.search.specs.Code.{codeOf, turnAt, walkCode}
+use Rattle.search.proofs.TurnCodes.{step-codes, turn-codes}
 use Rattle.search.proofs.Judgements.{one-open, rowTurn, short-turn, full-turn}
 
 empty : (b : List ℕ) → length b ≡ 0 → b ≡ []
@@ -92,65 +88,53 @@ module _ (g : Graph) (formed : WellFormed g) (b path : List ℕ) (v : ℕ) (same
   at-path : (i : ℕ) → 1 ≤ i → i ≤ suc (length b) → at path i ≡ at (b ++ (v ∷ [])) i
   at-path i l h = sym (getD-take (suc (length b)) path (i - 1) 0 (omega arith)) ∙ ap (λ (p : List ℕ). getD p (i - 1) 0) same
 
-  image-path : (k : Pair) → 1 ≤ k .row → k .row ≤ suc (length b) → 1 ≤ k .column → k .column ≤ suc (length b) → image path k ≡ image (b ++ (v ∷ [])) k
-  unfolding image
-  image-path k a c d e = ap₂ pairOfTwo (at-path (k .row) a c) (at-path (k .column) d e)
-
   turn-path : (k : Pair) → 1 ≤ k .row → k .row ≤ suc (length b) → 1 ≤ k .column → k .column ≤ suc (length b)
       → codeOf (turn samePair (entryAt g) (image (b ++ (v ∷ []))) k) ≡ turnAt (g .edges) (g .unknowns) path k
   unfolding turnAt
-  turn-path k a c d e =
-      rw (at-path (k .row) a c, at-path (k .column) d e, image-path k a c d e)
-      (ap (λ (x : ℕ). codeOf (step (entryAt g k) x (samePair (image (b ++ (v ∷ [])) k) k))) (entry-of-image g formed (b ++ (v ∷ [])) k))
+  turn-path k a c d e = rw (at-path (k .row) a c, at-path (k .column) d e) (turn-codes g formed (b ++ (v ∷ [])) k)
+
+  pub at-last : at path (suc (length b)) ≡ v
+  at-last =
+      let place : suc (length b) - 1 ≡ length b = omega arith in
+      at-path (suc (length b)) (omega arith) (omega arith) ∙ rw place (getD-at b v [] 0 (length b) refl)
 
   -- the pair that comes with v
-  row-path : 1 ≤ length b → codeOf (rowTurn g b v) ≡ turnAt (g .edges) (g .unknowns) path (pair 1 (suc (length b)))
-  unfolding turnAt image
+  abbrev pub here : Pair
+  here = pair 1 (suc (length b))
+
+  -- and what it does
+  abbrev pub hereTurn : ℕ
+  hereTurn = turnAt (g .edges) (g .unknowns) path here
+
+  row-path : 1 ≤ length b → codeOf (rowTurn g b v) ≡ hereTurn
+  unfolding turnAt
   row-path l =
-      let last : at (b ++ (v ∷ [])) (suc (length b)) ≡ v = let e : suc (length b) - 1 ≡ length b = omega arith in rw e (getD-at b v [] 0 (length b) refl) in
-      let first : at (b ++ (v ∷ [])) 1 ≡ at b 1 = List·getD-append b (v ∷ []) 0 0 l in
-      rw (at-path 1 (omega arith) (omega arith), at-path (suc (length b)) (omega arith) (omega arith), last, first)
+      let first : at path 1 ≡ at b 1 = at-path 1 (omega arith) (omega arith) ∙ List·getD-append b (v ∷ []) 0 0 l in
+      rw (at-last, first) (step-codes g formed 1 (suc (length b)) (at b 1) v)
 
-  -- ---- the code of the last place, where the beginning before it is open
+  -- ---- how the beginning that ends with v is judged, where the one before it is open
 
-  module _ (h : length b < g .order) (so-far : 1 ≤ length b → judged g b ≡ Search.«open») where
-    Code : Type 0
-    Code = judgementCode (judged g (b ++ (v ∷ []))) ≡ lastCode (g .edges) (g .unknowns) path (g .order) (suc (length b))
+  -- at place 1 no pair comes with v
+  pub first-open : length b ≡ 0 → 1 ≤ g .order → judged g (b ++ (v ∷ [])) ≡ Search.«open»
+  first-open e h = rw (empty b e) (one-open g v h)
 
-    here : Pair
-    here = pair 1 (suc (length b))
+  module _ (l : 1 ≤ length b) (so-far : judged g b ≡ Search.«open») where
+    by-turn : (rest : Outcome Pair) (r : ℕ) → outcomeCode rest ≡ r
+        → judgementCode (judgementOf (ending (rowTurn g b v) here rest)) ≡ pick (eqb hereTurn 0) r hereTurn
+    by-turn rest r e =
+        judgement-outcome (ending (rowTurn g b v) here rest) ∙ ending-code (rowTurn g b v) here rest
+        ∙ ap₂ (λ (c x : ℕ). pick (eqb c 0) x c) (row-path l) e
 
-    one-place : length b ≡ 0 → Code
-    unfolding Code judgementCode lastCode pick
-    one-place e = rw (empty b e) (ap judgementCode (one-open g v (omega arith)))
+    -- where places are left that pair decides alone
+    pub short-code : suc (length b) < g .order → judgementCode (judged g (b ++ (v ∷ []))) ≡ pick (eqb hereTurn 0) 0 hereTurn
+    unfolding outcomeCode
+    short-code k = ap judgementCode (short-turn g formed b v l so-far k) ∙ by-turn still-open 0 refl
 
-    module _ (l : 1 ≤ length b) where
-      by-turn : (rest : Outcome Pair) (r : ℕ) → outcomeCode rest ≡ r
-          → judgementCode (judgementOf (ending (rowTurn g b v) here rest))
-          ≡ pick (eqb (turnAt (g .edges) (g .unknowns) path here) 0) r (turnAt (g .edges) (g .unknowns) path here)
-      unfolding here
-      by-turn rest r e =
-          judgement-outcome (ending (rowTurn g b v) here rest) ∙ ending-code (rowTurn g b v) here rest
-          ∙ ap₂ (λ (c x : ℕ). pick (eqb c 0) x c) (row-path l) e
-
-      short-code : suc (length b) < g .order → Code
-      unfolding Code here lastCode walkCode pick outcomeCode
-      short-code k =
-          rw (le-ltb (suc (length b)) 2 (omega arith), lt-ltb (suc (length b)) (g .order) k)
-          (ap judgementCode (short-turn g formed b v l (so-far l) k) ∙ by-turn still-open 0 refl)
-
-      full-code : suc (length b) ≡ g .order → Code
-      unfolding Code here lastCode walkCode pick
-      full-code k =
-          rw (le-ltb (suc (length b)) 2 (omega arith), le-ltb (suc (length b)) (g .order) (omega arith))
-          (ap judgementCode (full-turn g formed b v l (so-far l) k)
-          ∙ by-turn (walk samePair (entryAt g) (image (b ++ (v ∷ []))) (fromRow 2 (g .order - 2))) (walkCode (turnAt (g .edges) (g .unknowns) path) (fromRow 2 (g .order - 2)))
-          (walk-code (entryAt g) (image (b ++ (v ∷ []))) (turnAt (g .edges) (g .unknowns) path) (fromRow 2 (g .order - 2))
-          (λ j m. let w = fromRow-given 2 (g .order - 2) j m in turn-path j (omega arith) (omega arith) (omega arith) (omega arith))))
-
-    pub last-judged : judgementCode (judged g (b ++ (v ∷ []))) ≡ lastCode (g .edges) (g .unknowns) path (g .order) (suc (length b))
-    unfolding Code
-    last-judged =
-        ⊎-elim (λ (e : 0 ≡ length b). one-place (sym e))
-        (λ (l : 0 < length b). ⊎-elim (λ (e : suc (length b) ≡ g .order). full-code l e) (λ (k : suc (length b) < g .order). short-code l k) (eq-or-lt-of-le h))
-        (eq-or-lt-of-le {n = 0} {m = length b} (omega arith))
+    -- else the rows after the first come after it
+    pub full-code : suc (length b) ≡ g .order
+        → judgementCode (judged g (b ++ (v ∷ []))) ≡ pick (eqb hereTurn 0) (walkCode (turnAt (g .edges) (g .unknowns) path) (fromRow 2 (g .order - 2))) hereTurn
+    full-code k =
+        ap judgementCode (full-turn g formed b v l so-far k)
+        ∙ by-turn (walk samePair (entryAt g) (image (b ++ (v ∷ []))) (fromRow 2 (g .order - 2))) (walkCode (turnAt (g .edges) (g .unknowns) path) (fromRow 2 (g .order - 2)))
+        (walk-code (entryAt g) (image (b ++ (v ∷ []))) (turnAt (g .edges) (g .unknowns) path) (fromRow 2 (g .order - 2))
+        (λ j m. let w = fromRow-given 2 (g .order - 2) j m in turn-path j (omega arith) (omega arith) (omega arith) (omega arith)))

@@ -1,4 +1,7 @@
 pub mod CodeTurns
+pub mod TurnCodes
+pub mod CodeStops
+pub mod StopLaws
 pub mod CodeClause
 pub mod Writing
 pub mod CodeMasks
@@ -7,12 +10,12 @@ pub mod Arrangements
 pub mod Judgements
 pub mod Certificates
 pub mod Exact
-pub mod CodeLast
 pub mod LastJudged
 pub mod First
 pub mod Count
 pub mod Buffer
 pub mod Searching
+pub mod Trying
 pub mod CodeSearch
 pub mod Images
 pub mod Sound

@@ -1,27 +1,45 @@
 -- What the code computes on rows and paths, by numbers: 0 goes on or open, 1 loses or lost, 2 wins or won.
-use Prim.Native.Nat.{ℕ, _-_, _≤_}
+use Prim.Native.Nat.{ℕ, _-_, _^_, _≤_}
+use mathlib.Core.Path.{_≡_}
+use mathlib.Core.Logic.{_≢_}
 use mathlib.Core.List.{List, [], _∷_}
-use lib.ListN.{take}
-use lib.Dec.{eqb, ltb}
+use lib.Bits.{bitAnd, bitOr}
+use lib.ListN.{length, getD, take}
+use lib.Dec.{eqb}
 use Rattle.laws.specs.Test.{pick}
-use Rattle.walk.specs.Walk.{Turn, wins, goes-on, loses, step}
+use Rattle.laws.specs.Bit.{bit}
+use Rattle.walk.specs.Walk.{Turn, wins, goes-on, loses}
 use Rattle.beginnings.specs.Search.{Found, cut, none, first}
 use Rattle.graph.specs.declared.Graph.{Graph}
-use Rattle.graph.specs.Graph.{entryIn}
+use Rattle.graph.specs.Graph.{row}
 use Rattle.graph.specs.Arrangement.{at}
-use Rattle.graph.specs.Pairs.{Pair, pair, fromRow}
+use Rattle.graph.specs.Pairs.{Pair, pair}
 use Rattle.search.specs.declared.explore.Explored.{Explored}
-use Rattle.search.specs.Judging.{samePair, image}
+use Rattle.search.specs.Judging.{samePair, pairOfTwo}
 
 unfoldable pub codeOf : Turn → ℕ
 codeOf goes-on = 0
 codeOf loses = 1
 codeOf wins = 2
 
+-- all 32 marks
+abbrev pub allMarks : ℕ
+allMarks = 4294967295
+
+-- the entries of row u that are not 0, as a mask
+abbrev pub marksOf : List ℕ → List ℕ → ℕ → ℕ
+marksOf edges unknowns u = bitOr (row edges u) (row unknowns u)
+
+-- what the pair (i, j) does where u and v stand there, by the edges of row i and the marks of row u
+unfoldable pub turnBy : ℕ → ℕ → ℕ → ℕ → ℕ → ℕ → ℕ
+turnBy ones marks i j u v =
+    pick (eqb (bit ones (j - 1)) (bit marks (v - 1))) 0
+    (pick (eqb (bit ones (j - 1)) 1) 2 (pick (samePair (pairOfTwo u v) (pair i j)) 0 1))
+
 -- what pair k does under the path p
 unfoldable pub turnAt : List ℕ → List ℕ → List ℕ → Pair → ℕ
 turnAt edges unknowns p k =
-    codeOf (step (entryIn edges unknowns (k .row) (k .column)) (entryIn edges unknowns (at p (k .row)) (at p (k .column))) (samePair (image p k) k))
+    turnBy (row edges (k .row)) (marksOf edges unknowns (at p (k .row))) (k .row) (k .column) (at p (k .row)) (at p (k .column))
 
 -- the first of the pairs that does not go on, or 0
 unfoldable pub walkCode : (Pair → ℕ) → List Pair → ℕ
@@ -37,10 +55,28 @@ firstPair t (k ∷ ks) =
     let rest = firstPair t ks in
     pick (eqb (t k) 0) rest k
 
--- how the first k places of p are judged, by the pairs that come with place k: none at place 1, (1, k), and at place n all later ones
-unfoldable pub lastCode : List ℕ → List ℕ → List ℕ → ℕ → ℕ → ℕ
-lastCode edges unknowns p n k =
-    pick (ltb k 2) 0 (walkCode (turnAt edges unknowns p) (pair 1 k ∷ pick (ltb k n) [] (fromRow 2 (n - 2))))
+-- ---- the pairs of row 1, by the vertices that decide them
+
+-- the vertex that makes the pair (1, k) its own image where u stands at place 1, as a mask
+unfoldable pub ownMask : ℕ → ℕ → ℕ
+ownMask u k = pick (eqb u 1) (2 ^ (k - 1)) (pick (eqb u k) 1 0)
+
+-- the vertices that decide the pair (1, k) when they are put at place k, by the edges of row 1 and the marks of row u:
+-- those without a mark where it is an edge, else those with one, less the one that makes the pair its own image
+unfoldable pub stopsAt : ℕ → ℕ → ℕ → ℕ → ℕ
+stopsAt ones marks u k =
+    pick (eqb (bit ones (k - 1)) 1) (allMarks - bitAnd allMarks marks) (marks - bitAnd marks (ownMask u k))
+
+-- the stops of the places 2..m, where u stands at place 1; place 1 has none
+pub record StopsFor (edges unknowns : List ℕ) (u m : ℕ) (stops : List ℕ) : Type 0 where
+  pub long : length stops ≡ 32
+  pub none-first : getD stops 0 0 ≡ 0
+  pub later : (k : ℕ) → 2 ≤ k → k ≤ m → row stops k ≡ stopsAt (row edges 1) (marksOf edges unknowns u) u k
+
+-- stops before and after a vertex is chosen at a depth: only the choice of the first one changes them
+pub record Stopped (edges unknowns : List ℕ) (n depth u : ℕ) (before after : List ℕ) : Type 0 where
+  pub chosen : depth ≡ 0 → StopsFor edges unknowns u n after
+  pub kept : depth ≢ 0 → after ≡ before
 
 -- each of the first k places of p holds a number of 1..32
 pub record Within (k : ℕ) (p : List ℕ) : Type 0 where

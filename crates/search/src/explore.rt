@@ -2,16 +2,16 @@
 ghost use mathlib.Core.Path.{_≡_};
 ghost use mathlib.Core.Bool.{true};
 ghost use Prim.Native.Nat.{_+_, _-_, _^_, _≤_, _<_};
-ghost use lib.ListN.{length, take, drop, replicate};
-ghost use Rattle.graph.specs.Arrangement.{at};
+ghost use lib.ListN.{length, drop};
 ghost use Rattle.graph.specs.WellFormed.{wellFormed};
 ghost use Rattle.search.specs.Judging.{found};
-ghost use Rattle.search.specs.Code.{Within, lastCode, graphIn, foundBy};
+ghost use Rattle.search.specs.Code.{graphIn, foundBy};
 use crate::masks::block_masks;
 use crate::masks::lowest;
 use crate::masks::power;
 use crate::masks::without;
-use crate::turns::pair_turn;
+use crate::stops::set_stops;
+use crate::turns::edges_of;
 use crate::turns::rows_walk;
 
 // How a search ended: kind 0 with nothing found, 1 with the path's first places as the first won beginning, 2 cut.
@@ -21,28 +21,11 @@ pub struct Explored {
     pub depth: u32,
 }
 
-// How the path's first k places are judged, where the shorter beginnings are open: 0 open, 1 lost, 2 won.
-fn last_turn<'a>(
-    edges: &'a [u32; 32],
-    unknowns: &'a [u32; 32],
-    path: &'a [u8; 32],
-    n: u32,
-    k: u32,
-) -> u32
-    requires { ⌜ (n ≤ 32) × (1 ≤ k) × (k ≤ n) × Within k (now path) ⌝ }
-    ensures { λ r. ⌜ r ≡ lastCode (now (edges .entry)) (now (unknowns .entry)) (now (path .entry)) n k ⌝ }
+// An ended search.
+fn ended(kind: u32, steps: u32, depth: u32) -> Explored
+    ensures { λ r. ⌜ (r .kind ≡ kind) × (r .steps ≡ steps) × (r .depth ≡ depth) ⌝ }
 {
-    if k < 2 {
-        return 0;
-    }
-    let code = pair_turn(edges, unknowns, path, 1, k);
-    if code == 0 {
-        if k < n {
-            return 0;
-        }
-        return rows_walk(edges, unknowns, path, n, 2);
-    }
-    code
+    Explored { kind, steps, depth }
 }
 
 // A place of the path as it is stored: the vertex at bit v.
@@ -75,50 +58,43 @@ pub fn explore<'a, 'b>(
     ensures { λ r. ⌜ (foundBy r (now (path .exit)) ≡ found (graphIn n (now (edges .entry)) (now (unknowns .entry)) starts) budget) × (drop n (now (path .exit)) ≡ drop n (now (path .entry))) × (r .depth ≤ n) ⌝ }
 {
     let blocks = block_masks(n, starts);
+    let ones = edges_of(edges, 1);
     let mut untried = [0u32; 32];
-    untried[0] = blocks[0];
+    let mut stops = [0u32; 32];
+    let mut left = blocks[0];
     let mut used = 0u32;
     let mut depth = 0usize;
     let mut steps = 0u32;
     loop {
-        let mask = untried[depth];
-        if mask == 0 {
+        if left == 0 {
             if depth == 0 {
-                return Explored {
-                    kind: 0,
-                    steps,
-                    depth: 0,
-                };
+                return ended(0, steps, 0);
             }
             depth -= 1;
             used -= weight_of(path[depth]);
+            left = untried[depth];
         } else {
             if steps == budget {
-                return Explored {
-                    kind: 2,
-                    steps,
-                    depth: 0,
-                };
+                return ended(2, steps, 0);
             }
-            let v = lowest(mask);
-            untried[depth] = mask - power(v);
+            let v = lowest(left);
+            let weight = power(v);
+            left -= weight;
             path[depth] = stored(v);
             steps += 1;
             let k = depth as u32 + 1;
-            let code = last_turn(edges, unknowns, path, n, k);
-            if code == 2 {
-                return Explored {
-                    kind: 1,
-                    steps,
-                    depth: k,
-                };
-            }
-            if code == 0 {
-                if k < n {
-                    used += power(v);
-                    depth += 1;
-                    untried[depth] = without(blocks[depth], used);
+            if (stops[depth] >> v) % 2 == 1 {
+                if (ones >> depth) % 2 == 1 {
+                    return ended(1, steps, k);
                 }
+            } else if k < n {
+                set_stops(edges, unknowns, n, depth, v, &mut stops);
+                untried[depth] = left;
+                used += weight;
+                depth += 1;
+                left = without(blocks[depth], used);
+            } else if rows_walk(edges, unknowns, path, n, 2) == 2 {
+                return ended(1, steps, k);
             }
         }
     }

@@ -2,7 +2,7 @@
 ghost use mathlib.Core.Path.{_≡_};
 ghost use mathlib.Core.Bool.{true};
 ghost use mathlib.Core.List.{_++_};
-ghost use Prim.Native.Nat.{_+_, _-_, _≤_};
+ghost use Prim.Native.Nat.{_-_, _≤_};
 ghost use lib.ListN.{length, take, drop, replicate};
 ghost use lib.Dec.{leb};
 ghost use Rattle.beginnings.specs.Beginning.{Beginning};
@@ -17,6 +17,7 @@ mod certificate;
 mod clause;
 mod explore;
 mod masks;
+mod stops;
 mod turns;
 
 use certificate::complete;

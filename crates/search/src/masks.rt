@@ -1,12 +1,11 @@
 // Masks of vertices: vertex v is bit v - 1.
 ghost use mathlib.Core.Path.{_≡_};
-ghost use Prim.Native.Nat.{_+_, _-_, _*_, _^_, _≤_, _<_};
+ghost use Prim.Native.Nat.{_+_, _-_, _^_, _≤_, _<_};
 ghost use lib.Bits.{bitAnd};
 ghost use lib.Count.{trailingZeros};
-ghost use lib.ListN.{take};
 ghost use Rattle.graph.specs.Graph.{blockOf, startAt, placed};
 ghost use Rattle.graph.specs.Arrangement.{at};
-ghost use Rattle.search.specs.Masks.{sameBlock, blockMask, usedMask};
+ghost use Rattle.search.specs.Masks.{sameBlock, blockMask};
 use graph::inner::weight;
 
 // The place of the lowest bit of a mask.

@@ -1,34 +1,29 @@
 // The walk of a path over pairs. An answer is 0 where it goes on, 1 where it loses, 2 where it wins.
 ghost use mathlib.Core.Path.{_≡_};
-ghost use mathlib.Core.Bool.{true};
-ghost use mathlib.Core.List.{_++_};
-ghost use Prim.Native.Nat.{ℕ, _+_, _-_, _≤_, _<_};
-ghost use Rattle.walk.specs.Walk.{step};
-ghost use Rattle.graph.specs.Graph.{entryIn};
+ghost use Prim.Native.Nat.{_+_, _-_, _≤_};
+ghost use Rattle.graph.specs.Graph.{row};
 ghost use Rattle.graph.specs.Arrangement.{at};
 ghost use Rattle.graph.specs.Pairs.{pair, alongRow, fromRow};
 ghost use Rattle.search.specs.Judging.{samePair, pairOfTwo};
-ghost use Rattle.search.specs.Code.{codeOf, turnAt, walkCode, Within};
-use graph::inner::entry_in;
+ghost use Rattle.search.specs.Code.{marksOf, turnBy, turnAt, walkCode, Within};
 use graph::inner::vertex_at;
 
-// One step, from the entries a and b and whether the pair is its own image.
-fn step_code(a: u32, b: u32, own: bool) -> u32
-    ensures { λ r. ⌜ r ≡ codeOf (step a b own) ⌝ }
+// The edges of row i.
+pub fn edges_of(edges: &[u32; 32], i: u32) -> u32
+    requires { ⌜ (1 ≤ i) × (i ≤ 32) ⌝ }
+    ensures { λ r. ⌜ r ≡ row (now (edges .entry)) i ⌝ }
 {
-    if a == 1 {
-        if b == 0 {
-            return 2;
-        }
-        return 0;
-    }
-    if b == 0 {
-        return 0;
-    }
-    if own {
-        return 0;
-    }
-    1
+    let at = (i - 1) as usize;
+    edges[at]
+}
+
+// The entries of row u that are not 0.
+pub fn marks_of<'a>(edges: &'a [u32; 32], unknowns: &'a [u32; 32], u: u32) -> u32
+    requires { ⌜ (1 ≤ u) × (u ≤ 32) ⌝ }
+    ensures { λ r. ⌜ r ≡ marksOf (now (edges .entry)) (now (unknowns .entry)) u ⌝ }
+{
+    let at = (u - 1) as usize;
+    edges[at] | unknowns[at]
 }
 
 // Is {u, v} the pair (i, j)?
@@ -47,6 +42,24 @@ fn is_own(i: u32, j: u32, u: u32, v: u32) -> bool
     false
 }
 
+// What the pair (i, j) does where u and v stand there, by the edges of row i and the marks of row u.
+fn turn_by(ones: u32, marks: u32, i: u32, j: u32, u: u32, v: u32) -> u32
+    requires { ⌜ (1 ≤ j) × (j ≤ 32) × (1 ≤ v) × (v ≤ 32) ⌝ }
+    ensures { λ r. ⌜ r ≡ turnBy ones marks i j u v ⌝ }
+{
+    let a = (ones >> (j - 1)) % 2;
+    if a == (marks >> (v - 1)) % 2 {
+        return 0;
+    }
+    if a == 1 {
+        return 2;
+    }
+    if is_own(i, j, u, v) {
+        return 0;
+    }
+    1
+}
+
 // What the pair (i, j) does under the path.
 pub fn pair_turn<'a>(
     edges: &'a [u32; 32],
@@ -60,13 +73,13 @@ pub fn pair_turn<'a>(
 {
     let u = vertex_at(path, i);
     let v = vertex_at(path, j);
-    let a = entry_in(edges, unknowns, i, j);
-    let b = entry_in(edges, unknowns, u, v);
-    step_code(a, b, is_own(i, j, u, v))
+    let ones = edges_of(edges, i);
+    let marks = marks_of(edges, unknowns, u);
+    turn_by(ones, marks, i, j, u, v)
 }
 
 // The walk along row i from (i, j) to (i, n).
-pub fn row_walk<'a>(
+fn row_walk<'a>(
     edges: &'a [u32; 32],
     unknowns: &'a [u32; 32],
     path: &'a [u8; 32],
@@ -77,9 +90,13 @@ pub fn row_walk<'a>(
     requires { ⌜ (n ≤ 32) × (1 ≤ i) × (i ≤ n) × (1 ≤ from) × (from ≤ n + 1) × Within n (now path) ⌝ }
     ensures { λ r. ⌜ r ≡ walkCode (turnAt (now (edges .entry)) (now (unknowns .entry)) (now (path .entry))) (alongRow i from (n + 1 - from)) ⌝ }
 {
+    let u = vertex_at(path, i);
+    let ones = edges_of(edges, i);
+    let marks = marks_of(edges, unknowns, u);
     let mut j = from;
     while j <= n {
-        let code = pair_turn(edges, unknowns, path, i, j);
+        let v = vertex_at(path, j);
+        let code = turn_by(ones, marks, i, j, u, v);
         if code == 0 {
             j += 1;
         } else {
@@ -97,7 +114,7 @@ pub fn rows_walk<'a>(
     n: u32,
     from: u32,
 ) -> u32
-    requires { ⌜ (n ≤ 32) × (1 ≤ from) × (from ≤ n) × Within n (now path) ⌝ }
+    requires { ⌜ (n ≤ 32) × (1 ≤ from) × Within n (now path) ⌝ }
     ensures { λ r. ⌜ r ≡ walkCode (turnAt (now (edges .entry)) (now (unknowns .entry)) (now (path .entry))) (fromRow from (n - from)) ⌝ }
 {
     let mut i = from;

@@ -3,7 +3,7 @@ use Prim.Native.Nat.{_-_, _≤_}
 use mathlib.Core.Path.{_≡_}
 use mathlib.Core.Bool.{true}
 use Rattle.laws.specs.UpTo.{allUpTo}
-use Rattle.laws.specs.Loops.{all-starts, all-turns, all-done, all-stops}
+use Rattle.laws.specs.Loops.{all-starts, all-turns}
 use Rattle.graph.specs.Arrangement.{differs}
 use Rattle.graph.proofs.CodeTests.{new-done, new-stops}
 use Rattle.graph.proofs.inner.is_new.Statement.{statement}

@@ -5,7 +5,7 @@ use Rattle.laws.specs.UpTo.{wordUpTo}
 use Rattle.laws.specs.Loops.{word-starts}
 use Rattle.graph.specs.Graph.{row as rowOf}
 use Rattle.graph.specs.Arrangement.{at, movedBit}
-use Rattle.graph.proofs.CodePlaces.{row-of-place, moved-turns, moved-done, word-grows, word-fits}
+use Rattle.graph.proofs.CodePlaces.{row-of-place, moved-turns, moved-done, bit-grows, bit-fits}
 use Rattle.graph.proofs.inner.moved_row.Statement.{statement}
 use Rattle.graph.proofs.inner.moved_row.Tie as tie
 
@@ -37,7 +37,7 @@ moved-weight-requires : tie.Need-moved-weight-requires Inv-loop μ-loop
 moved-weight-requires c κs = search needs
 
 add-row : tie.Need-add-row Inv-loop μ-loop
-add-row c = search (word-fits, needs)
+add-row c = search (bit-fits, needs)
 
 add-j : tie.Need-add-j Inv-loop μ-loop
 add-j c = search needs
@@ -46,7 +46,7 @@ loop-less : tie.Need-loop-less Inv-loop μ-loop
 loop-less c = search needs
 
 loop-again : tie.Need-loop-again Inv-loop μ-loop
-loop-again c = (search needs, search needs, search moved-turns, search word-grows)
+loop-again c = (search needs, search needs, search moved-turns, search bit-grows)
 
 returns : tie.Need-returns Inv-loop μ-loop
 returns c = search (moved-done, needs)

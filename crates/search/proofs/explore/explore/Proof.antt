@@ -1,5 +1,5 @@
 use borrow.Author.Needs.{needs}
-use Rattle.search.proofs.CodeSearch.{order-bounded, path-kept, ends-none, last-low, last-high, last-used, climbs, ends-cut, low-place, mask-holds, used-fits, longer-within, longer-kept, ends-first, past-lost, past-full, goes-deeper}
+use Rattle.search.proofs.CodeSearch.{order-bounded, path-kept, ends-none, last-low, last-high, last-used, climbs, ends-cut, low-place, mask-holds, used-fits, longer-within, longer-kept, ends-at-stop, past-stop, ends-full, past-full, goes-deeper}
 use Prim.Native.Nat.{_+_, _-_, _*_}
 use Rattle.graph.proofs.Formed.{formed}
 use Rattle.search.specs.Code.{graphIn}
@@ -8,30 +8,27 @@ use Rattle.search.proofs.explore.explore.Statement.{statement}
 use Rattle.search.proofs.explore.explore.Tie as tie
 
 abbrev Inv-loop : tie.InvT-loop
-Inv-loop n edges unknowns starts budget path₀ blocks untried₀ used₀ depth₀ steps₀ path untried used depth steps =
-    Searching (graphIn n edges unknowns starts) budget blocks path₀ path untried used depth steps
+Inv-loop n edges unknowns starts budget path₀ blocks ones untried₀ stops₀ left₀ used₀ depth₀ steps₀ path untried stops left used depth steps =
+    Searching (graphIn n edges unknowns starts) budget blocks path₀ path untried stops left used depth steps
 
 abbrev μ-loop : tie.MeasureT-loop
-μ-loop n edges unknowns starts budget path₀ blocks untried₀ used₀ depth₀ steps₀ path untried used depth steps =
+μ-loop n edges unknowns starts budget path₀ blocks ones untried₀ stops₀ left₀ used₀ depth₀ steps₀ path untried stops left used depth steps =
     (budget - steps) * 2 + depth
 
 block-masks-requires : tie.Need-block-masks-requires Inv-loop μ-loop
 block-masks-requires c κs = search (order-bounded, needs)
 
-array-read-untried : tie.Need-array-read-untried Inv-loop μ-loop
-array-read-untried c = search needs
+edges-of-requires : tie.Need-edges-of-requires Inv-loop μ-loop
+edges-of-requires c κs = search needs
 
-array-write-untried : tie.Need-array-write-untried Inv-loop μ-loop
-array-write-untried c = search needs
+array-read-left : tie.Need-array-read-left Inv-loop μ-loop
+array-read-left c = search needs
 
 loop-holds : tie.Need-loop-holds Inv-loop μ-loop
 loop-holds c = search (begins, formed)
 
-mul-mask : tie.Need-mul-mask Inv-loop μ-loop
-mul-mask c = search needs
-
-array-read-mask : tie.Need-array-read-mask Inv-loop μ-loop
-array-read-mask c = search needs
+ended-requires : tie.Need-ended-requires Inv-loop μ-loop
+ended-requires c κs = search needs
 
 returns : tie.Need-returns Inv-loop μ-loop
 returns c = (search ends-none, search path-kept, search needs)
@@ -48,11 +45,20 @@ weight-of-requires c κs = (search last-low, search last-high)
 sub-used : tie.Need-sub-used Inv-loop μ-loop
 sub-used c = search (last-used, needs)
 
+mul-left : tie.Need-mul-left Inv-loop μ-loop
+mul-left c = search needs
+
+array-read-left-2 : tie.Need-array-read-left-2 Inv-loop μ-loop
+array-read-left-2 c = search needs
+
 loop-less : tie.Need-loop-less Inv-loop μ-loop
 loop-less c = search needs
 
 loop-again : tie.Need-loop-again Inv-loop μ-loop
 loop-again c = search climbs
+
+ended-requires-2 : tie.Need-ended-requires-2 Inv-loop μ-loop
+ended-requires-2 c κs = search needs
 
 returns-2 : tie.Need-returns-2 Inv-loop μ-loop
 returns-2 c = (search ends-cut, search path-kept, search needs)
@@ -63,14 +69,8 @@ lowest-requires c κs = search needs
 power-requires : tie.Need-power-requires Inv-loop μ-loop
 power-requires c κs = search (low-place, needs)
 
-sub-untried : tie.Need-sub-untried Inv-loop μ-loop
-sub-untried c = search (mask-holds, needs)
-
-mul-untried : tie.Need-mul-untried Inv-loop μ-loop
-mul-untried c = search needs
-
-array-write-untried-2 : tie.Need-array-write-untried-2 Inv-loop μ-loop
-array-write-untried-2 c = search needs
+sub-left : tie.Need-sub-left Inv-loop μ-loop
+sub-left c = search (mask-holds, needs)
 
 stored-requires : tie.Need-stored-requires Inv-loop μ-loop
 stored-requires c κs = search (low-place, needs)
@@ -87,23 +87,44 @@ cast-k c = search needs
 add-k : tie.Need-add-k Inv-loop μ-loop
 add-k c = search needs
 
-last-turn-requires : tie.Need-last-turn-requires Inv-loop μ-loop
-last-turn-requires c κs = (search needs, search needs, search needs, search longer-within)
+mul-if4 : tie.Need-mul-if4 Inv-loop μ-loop
+mul-if4 c = search needs
+
+array-read-if4 : tie.Need-array-read-if4 Inv-loop μ-loop
+array-read-if4 c = search needs
+
+shr-if4 : tie.Need-shr-if4 Inv-loop μ-loop
+shr-if4 c = search (low-place, needs)
+
+cast-if5 : tie.Need-cast-if5 Inv-loop μ-loop
+cast-if5 c = search needs
+
+shr-if5 : tie.Need-shr-if5 Inv-loop μ-loop
+shr-if5 c = search needs
+
+ended-requires-3 : tie.Need-ended-requires-3 Inv-loop μ-loop
+ended-requires-3 c κs = search needs
 
 returns-3 : tie.Need-returns-3 Inv-loop μ-loop
-returns-3 c =
-    let tried = c .before .before .before in
-    let turn = tried .before .before .before .before in
-    (ends-first _ _ _ _ _ _ _ _ _ _ _ _ (turn .before .loop .inv) (turn .if1 .left) _ (tried .before .before .lowest .ensures) _ (tried .stored .ensures) _ (c .before .last-turn .ensures) (tried .before .before .before .if3 .left) (c .if4 .taken), search longer-kept, search needs)
+returns-3 c = (search ends-at-stop, search longer-kept, search needs)
 
-power-requires-2 : tie.Need-power-requires-2 Inv-loop μ-loop
-power-requires-2 c κs = search (low-place, needs)
+loop-less-2 : tie.Need-loop-less-2 Inv-loop μ-loop
+loop-less-2 c = search needs
+
+loop-again-2 : tie.Need-loop-again-2 Inv-loop μ-loop
+loop-again-2 c = search past-stop
+
+set-stops-requires : tie.Need-set-stops-requires Inv-loop μ-loop
+set-stops-requires c κs = (search needs, search low-place, search needs, search needs)
+
+mul-untried : tie.Need-mul-untried Inv-loop μ-loop
+mul-untried c = search needs
+
+array-write-untried : tie.Need-array-write-untried Inv-loop μ-loop
+array-write-untried c = search needs
 
 add-used : tie.Need-add-used Inv-loop μ-loop
-add-used c =
-    let tried = c .before .before .before .before .before .before in
-    let turn = tried .before .before .before .before in
-    record { fits = used-fits _ _ _ _ _ _ _ _ _ _ _ _ (turn .before .loop .inv) (turn .if1 .left) _ (tried .before .before .lowest .ensures) _ (c .power2 .ensures) }
+add-used c = record { fits = search used-fits }
 
 add-depth : tie.Need-add-depth Inv-loop μ-loop
 add-depth c = search needs
@@ -117,29 +138,26 @@ array-read-without c = search needs
 without-requires : tie.Need-without-requires Inv-loop μ-loop
 without-requires c κs = search needs
 
-mul-untried-2 : tie.Need-mul-untried-2 Inv-loop μ-loop
-mul-untried-2 c = search needs
-
-array-write-untried-3 : tie.Need-array-write-untried-3 Inv-loop μ-loop
-array-write-untried-3 c = search needs
-
-loop-less-2 : tie.Need-loop-less-2 Inv-loop μ-loop
-loop-less-2 c = search needs
-
-loop-again-2 : tie.Need-loop-again-2 Inv-loop μ-loop
-loop-again-2 c = search goes-deeper
-
 loop-less-3 : tie.Need-loop-less-3 Inv-loop μ-loop
 loop-less-3 c = search needs
 
 loop-again-3 : tie.Need-loop-again-3 Inv-loop μ-loop
-loop-again-3 c = search past-full
+loop-again-3 c = search goes-deeper
+
+rows-walk-requires : tie.Need-rows-walk-requires Inv-loop μ-loop
+rows-walk-requires c κs = (search needs, search needs, search longer-within)
+
+ended-requires-4 : tie.Need-ended-requires-4 Inv-loop μ-loop
+ended-requires-4 c κs = search needs
+
+returns-4 : tie.Need-returns-4 Inv-loop μ-loop
+returns-4 c = (search ends-full, search longer-kept, search needs)
 
 loop-less-4 : tie.Need-loop-less-4 Inv-loop μ-loop
 loop-less-4 c = search needs
 
 loop-again-4 : tie.Need-loop-again-4 Inv-loop μ-loop
-loop-again-4 c = search past-lost
+loop-again-4 c = search past-full
 
 pub explore-spec : {M : Type 1} → statement M
 explore-spec =
@@ -148,42 +166,50 @@ explore-spec =
     Inv-loop
     μ-loop
     block-masks-requires
-    array-read-untried
-    array-write-untried
+    edges-of-requires
+    array-read-left
     loop-holds
-    mul-mask
-    array-read-mask
+    ended-requires
     returns
     sub-depth
     element-copy-out-weight-of
     weight-of-requires
     sub-used
+    mul-left
+    array-read-left-2
     loop-less
     loop-again
+    ended-requires-2
     returns-2
     lowest-requires
     power-requires
-    sub-untried
-    mul-untried
-    array-write-untried-2
+    sub-left
     stored-requires
     element-write-path
     add-steps
     cast-k
     add-k
-    last-turn-requires
+    mul-if4
+    array-read-if4
+    shr-if4
+    cast-if5
+    shr-if5
+    ended-requires-3
     returns-3
-    power-requires-2
+    loop-less-2
+    loop-again-2
+    set-stops-requires
+    mul-untried
+    array-write-untried
     add-used
     add-depth
     mul-without
     array-read-without
     without-requires
-    mul-untried-2
-    array-write-untried-3
-    loop-less-2
-    loop-again-2
     loop-less-3
     loop-again-3
+    rows-walk-requires
+    ended-requires-4
+    returns-4
     loop-less-4
     loop-again-4)

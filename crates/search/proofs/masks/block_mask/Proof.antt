@@ -2,10 +2,10 @@ use borrow.Author.Needs.{needs}
 use Prim.Native.Nat.{_-_, _≤_, _<_, _^_}
 use mathlib.Core.Path.{_≡_}
 use Rattle.laws.specs.UpTo.{wordUpTo}
-use Rattle.laws.specs.Loops.{word-starts}
+use Rattle.laws.specs.Loops.{word-starts, word-grows, word-fits}
 use Rattle.graph.specs.Arrangement.{at}
 use Rattle.search.specs.Masks.{sameBlock}
-use Rattle.search.proofs.CodeMasks.{mask-more, mask-grows, mask-fits, mask-done}
+use Rattle.search.proofs.CodeMasks.{mask-more, mask-done}
 use Rattle.search.proofs.masks.block_mask.Statement.{statement}
 use Rattle.search.proofs.masks.block_mask.Tie as tie
 
@@ -28,7 +28,7 @@ weight-requires : tie.Need-weight-requires Inv-loop μ-loop
 weight-requires c κs = search needs
 
 add-mask : tie.Need-add-mask Inv-loop μ-loop
-add-mask c = search (mask-fits, needs)
+add-mask c = search (word-fits, needs)
 
 add-j : tie.Need-add-j Inv-loop μ-loop
 add-j c = search needs
@@ -37,7 +37,7 @@ loop-less : tie.Need-loop-less Inv-loop μ-loop
 loop-less c = search needs
 
 loop-again : tie.Need-loop-again Inv-loop μ-loop
-loop-again c = (search needs, search mask-more, search mask-grows)
+loop-again c = (search needs, search mask-more, search word-grows)
 
 returns : tie.Need-returns Inv-loop μ-loop
 returns c = search (mask-done, needs)

@@ -9,17 +9,14 @@ vertex-at-requires c κs = search needs
 vertex-at-requires-2 : tie.Need-vertex-at-requires-2
 vertex-at-requires-2 c κs = search needs
 
-entry-in-requires : tie.Need-entry-in-requires
-entry-in-requires c κs = search needs
+edges-of-requires : tie.Need-edges-of-requires
+edges-of-requires c κs = search needs
 
-entry-in-requires-2 : tie.Need-entry-in-requires-2
-entry-in-requires-2 c κs = search needs
+marks-of-requires : tie.Need-marks-of-requires
+marks-of-requires c κs = search needs
 
-is-own-requires : tie.Need-is-own-requires
-is-own-requires c κs = search needs
-
-step-code-requires : tie.Need-step-code-requires
-step-code-requires c κs = search needs
+turn-by-requires : tie.Need-turn-by-requires
+turn-by-requires c κs = search needs
 
 returns : tie.Need-returns
 returns c = search (turn-is, needs)
@@ -30,8 +27,7 @@ pair-turn-spec =
     (tie.spec
     vertex-at-requires
     vertex-at-requires-2
-    entry-in-requires
-    entry-in-requires-2
-    is-own-requires
-    step-code-requires
+    edges-of-requires
+    marks-of-requires
+    turn-by-requires
     returns)

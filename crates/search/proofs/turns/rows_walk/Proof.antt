@@ -8,7 +8,7 @@ use Rattle.search.proofs.turns.rows_walk.Statement.{statement}
 use Rattle.search.proofs.turns.rows_walk.Tie as tie
 
 abbrev Inv-loop : tie.InvT-loop
-Inv-loop edges unknowns path n from i₀ i = (1 ≤ i) × (i ≤ n) × (walkCode (turnAt edges unknowns path) (fromRow i (n - i)) ≡ walkCode (turnAt edges unknowns path) (fromRow from (n - from)))
+Inv-loop edges unknowns path n from i₀ i = (1 ≤ i) × (walkCode (turnAt edges unknowns path) (fromRow i (n - i)) ≡ walkCode (turnAt edges unknowns path) (fromRow from (n - from)))
 
 abbrev μ-loop : tie.MeasureT-loop
 μ-loop edges unknowns path n from i₀ i = n - i
@@ -29,7 +29,7 @@ loop-less : tie.Need-loop-less Inv-loop μ-loop
 loop-less c = search needs
 
 loop-again : tie.Need-loop-again Inv-loop μ-loop
-loop-again c = (search needs, search needs, search rows-go-on)
+loop-again c = (search needs, search rows-go-on)
 
 returns : tie.Need-returns Inv-loop μ-loop
 returns c = search (rows-end, needs)

@@ -1,0 +1,3 @@
+pub mod Book
+pub mod Turning
+pub mod Parts

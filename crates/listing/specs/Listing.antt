@@ -1,0 +1,47 @@
+-- The lines of a book.
+use Prim.Native.Nat.{ℕ, zero, suc}
+use mathlib.Core.List.{List, [], _∷_, _++_}
+use lib.IntN.{ℤ, pos}
+use lib.ListN.{length, replicate}
+use lib.Dec.{eqb}
+use Rattle.laws.specs.Test.{pick}
+use Rattle.record.specs.declared.Record.{Record}
+use Rattle.record.specs.Answers.{readAnswer, restOf}
+use Rattle.search.specs.declared.Verdict.the-variants.{Refused}
+use Rattle.search.specs.declared.Judged.{Judged}
+use Rattle.search.specs.Answer.{without, judgeAnswer, judgeBuffer}
+use Rattle.line.specs.Line.{judgedLine}
+
+-- how many steps judging may take
+abbrev pub budget : ℕ
+budget = 1000000
+
+-- the room for literals
+abbrev pub scratch : List ℤ
+scratch = replicate 496 (pos 0)
+
+-- the judgement of a record that was read, or its refusal
+unfoldable pub judgedRecord : Record → ℕ → Judged
+judgedRecord found room =
+    pick (eqb (found .refusal) 0) (judgeAnswer (found .graph) budget room) (without (Refused (found .refusal) (found .place)))
+
+-- the room for literals afterwards
+unfoldable pub literalsOf : Record → List ℤ → List ℤ
+literalsOf found buffer = pick (eqb (found .refusal) 0) (judgeBuffer (found .graph) budget buffer) buffer
+
+-- the line of the record at the start of the bytes s
+unfoldable pub recordLine : ℕ → List ℕ → List ℕ
+recordLine number s =
+    judgedLine number ((readAnswer s) .graph .order) (judgedRecord (readAnswer s) 496) (literalsOf (readAnswer s) scratch)
+
+-- the lines of the records that the bytes s hold back to back, of which k at most are read; a refused one is the last
+unfoldable pub linesUpTo : ℕ → ℕ → List ℕ → List ℕ
+linesUpTo zero number s = []
+linesUpTo (suc k) number [] = []
+linesUpTo (suc k) number (b ∷ s) =
+    recordLine number (b ∷ s) ++
+    pick (eqb ((readAnswer (b ∷ s)) .refusal) 0) (linesUpTo k (suc number) (restOf (b ∷ s))) []
+
+-- all of them: a record takes a byte at least
+unfoldable pub linesOf : ℕ → List ℕ → List ℕ
+linesOf number s = linesUpTo (length s) number s
