@@ -54,9 +54,11 @@ module _ (budget : ℕ) (a : Judged) (b : Bounded budget a) (h : budget < 2 ^ 32
   packed-steps l = packed-low ∙ pick-true (ltb (told (a .verdict) .code) 128) _ _ (lt-ltb (told (a .verdict) .code) 128 l)
 
   -- and then the place
-  pub packed-place : 128 ≤ told (a .verdict) .code → lowIn (packed a) ≡ placeTold (told (a .verdict) .place)
+  pub packed-place : 128 ≤ told (a .verdict) .code → lowIn (packed a) ≡ told (a .verdict) .place
   unfolding lowTold
-  packed-place l = packed-low ∙ pick-false (ltb (told (a .verdict) .code) 128) _ _ (le-ltb (told (a .verdict) .code) 128 l)
+  packed-place l =
+      packed-low ∙ pick-false (ltb (told (a .verdict) .code) 128) _ _ (le-ltb (told (a .verdict) .code) 128 l)
+      ∙ place-itself (told (a .verdict) .place) (omega arith)
 
   -- all of it is 64 bits
   pub packed-fits : packed a < 2 ^ 64
@@ -73,28 +75,28 @@ counted-given number place count e h =
     rw (pick-true (eqb number 0) (fields count 0 0 0 0) (refusal number place) (eq-eqb number 0 e)) (low-is count 0 0 0 0 f, code-is count 0 0 0 0 f)
 
 -- the place and 128 more than the number of a refusal
-counted-refused : (number place count : ℕ) → number ≢ 0 → number < 128 → (lowIn (counted number place count) ≡ placeTold place) × (codeIn (counted number place count) ≡ 128 + number)
+counted-refused : (number place count : ℕ) → number ≢ 0 → number < 128 → place ≤ 496 → (lowIn (counted number place count) ≡ place) × (codeIn (counted number place count) ≡ 128 + number)
 unfolding counted refusal
-counted-refused number place count ne h =
+counted-refused number place count ne h small =
     let f : Fitting (placeTold place) 0 0 0 (128 + number) = omega (arith, place-fits place) in
-    rw (pick-false (eqb number 0) (fields count 0 0 0 0) (refusal number place) (ne-eqb number 0 ne)) (low-is (placeTold place) 0 0 0 (128 + number) f, code-is (placeTold place) 0 0 0 (128 + number) f)
+    rw (pick-false (eqb number 0) (fields count 0 0 0 0) (refusal number place) (ne-eqb number 0 ne)) (low-is (placeTold place) 0 0 0 (128 + number) f ∙ place-itself place (omega arith), code-is (placeTold place) 0 0 0 (128 + number) f)
 
 -- of the record at the start of some bytes
 module _ (s : List ℕ) where
   -- its size
   pub size-given : recordAt s .refusal ≡ 0 → (lowIn (packedExtent (recordAt s)) ≡ recordAt s .bytes) × (codeIn (packedExtent (recordAt s)) ≡ 0)
-  size-given e = counted-given (recordAt s .refusal) (recordAt s .place) (recordAt s .bytes) e (extent-small s .1)
+  size-given e = counted-given (recordAt s .refusal) (recordAt s .place) (recordAt s .bytes) e (extent-small s .2)
 
   -- or the refusal
-  pub size-refused : recordAt s .refusal ≢ 0 → (lowIn (packedExtent (recordAt s)) ≡ placeTold (recordAt s .place)) × (codeIn (packedExtent (recordAt s)) ≡ 128 + recordAt s .refusal)
-  size-refused ne = counted-refused (recordAt s .refusal) (recordAt s .place) (recordAt s .bytes) ne (omega (arith, extent-small s))
+  pub size-refused : recordAt s .refusal ≢ 0 → (lowIn (packedExtent (recordAt s)) ≡ recordAt s .place) × (codeIn (packedExtent (recordAt s)) ≡ 128 + recordAt s .refusal)
+  size-refused ne = counted-refused (recordAt s .refusal) (recordAt s .place) (recordAt s .bytes) ne (omega (arith, extent-small s)) (extent-small s .1)
 
 -- of a record that is written
 module _ (g : Graph) (out : List ℕ) where
   -- the bytes written
   pub write-given : writeAnswer g out .refusal ≡ 0 → (lowIn (packedWritten (writeAnswer g out)) ≡ writeAnswer g out .written) × (codeIn (packedWritten (writeAnswer g out)) ≡ 0)
-  write-given e = counted-given (writeAnswer g out .refusal) (writeAnswer g out .place) (writeAnswer g out .written) e (written-small g out .1)
+  write-given e = counted-given (writeAnswer g out .refusal) (writeAnswer g out .place) (writeAnswer g out .written) e (written-small g out .2)
 
   -- or the refusal
-  pub write-refused : writeAnswer g out .refusal ≢ 0 → (lowIn (packedWritten (writeAnswer g out)) ≡ placeTold (writeAnswer g out .place)) × (codeIn (packedWritten (writeAnswer g out)) ≡ 128 + writeAnswer g out .refusal)
-  write-refused ne = counted-refused (writeAnswer g out .refusal) (writeAnswer g out .place) (writeAnswer g out .written) ne (omega (arith, written-small g out))
+  pub write-refused : writeAnswer g out .refusal ≢ 0 → (lowIn (packedWritten (writeAnswer g out)) ≡ writeAnswer g out .place) × (codeIn (packedWritten (writeAnswer g out)) ≡ 128 + writeAnswer g out .refusal)
+  write-refused ne = counted-refused (writeAnswer g out .refusal) (writeAnswer g out .place) (writeAnswer g out .written) ne (omega (arith, written-small g out)) (omega (arith, written-small g out))

@@ -1,13 +1,14 @@
 -- What is told fits the places that it has in an answer.
-use Prim.Native.Nat.{ℕ, _≤_, _<_, _^_}
+use Prim.Native.Nat.{ℕ, zero, suc, _≤_, _<_, _^_}
 use native.Mathlib.Omega.{arith}
 use mathlib.Core.Path.{_≡_, refl}
 use mathlib.Core.Bool.{Bool, true, false}
 use mathlib.Core.List.{List, List·Memᴰ·head, Memᴰ·append-right}
-use borrow.Author.Tests.{leb-true}
+use borrow.Author.Tests.{leb-true, leb-false}
 use lib.ListN.{length}
 use lib.Dec.{eqb, leb, ltb}
 use Rattle.laws.specs.Test.{pick, unless}
+use Rattle.laws.specs.Num.{num-below}
 use Rattle.graph.specs.declared.Graph.{Graph}
 use Rattle.graph.specs.WellFormed.{wellFormed, orderFits}
 use Rattle.graph.specs.Pairs.{Pair, pairs, pairCount, entryAt}
@@ -18,6 +19,8 @@ use Rattle.record.specs.declared.Written.{Written}
 use Rattle.record.specs.Layout.{byteCount}
 use Rattle.record.specs.Reading.{bitOf, orderIn, refusedIn, padIn}
 use Rattle.record.specs.Answers.{extent, recordIn, recordAt, readAnswer, written, writeAnswer}
+use Rattle.record.proofs.BitLaws.{bit-small}
+use Rattle.record.proofs.Refused.{first-refused}
 use Rattle.record.proofs.SizeLaws.{bytes-high}
 use Rattle.walk.specs.Words.{StandsIn}
 use Rattle.search.specs.declared.Judged.{Judged}
@@ -49,37 +52,49 @@ unfolding unless
 check P true refusal rest p q = q refl
 check P false refusal rest p q = p refl
 
--- reading refuses by a number up to 4, and a record takes at most 129 bytes
+-- the pair with an entry 11 has a number up to 496
+refused-small : (f : ℕ → ℕ) (n : ℕ) → n ≤ 32 → refusedIn f n ≤ 496
+refused-small f n within = go (refusedIn f n) refl
+  where
+    go : (m : ℕ) → refusedIn f n ≡ m → m ≤ 496
+    go zero e = omega arith
+    go (suc k) e =
+        let high = first-refused f n k e .high in
+        let most : pairCount n ≤ 496 = pairCount-mono n 32 within in
+        omega arith
+
+-- reading refuses by a number up to 4, with a place up to 496, and a record takes at most 129 bytes
 abbrev SmallExtent : Extent → Type 0
-SmallExtent x = (x .refusal ≤ 4) × (x .bytes ≤ 129)
+SmallExtent x = (x .refusal ≤ 4) × (x .place ≤ 496) × (x .bytes ≤ 129)
 
 -- by the checks one after the other
-in-small : (f : ℕ → ℕ) (n given : ℕ) → SmallExtent (recordIn f n given)
+in-small : (f : ℕ → ℕ) (n given : ℕ) → n < 64 → SmallExtent (recordIn f n given)
 unfolding recordIn
-in-small f n given =
-    check SmallExtent (leb 1 given) (extent 1 given 0) _ (λ e. omega arith) (λ e.
-    check SmallExtent (orderFits n) (extent 2 n 0) _ (λ e. omega arith) (λ within.
-    check SmallExtent (leb (byteCount n) given) (extent 1 given 0) _ (λ e. omega arith) (λ e.
-    check SmallExtent (eqb (refusedIn f n) 0) (extent 3 (refusedIn f n) 0) _ (λ e. omega arith) (λ e.
+in-small f n given h =
+    check SmallExtent (leb 1 given) (extent 1 given 0) _ (λ e. omega (arith, leb-false 1 given e)) (λ e.
+    check SmallExtent (orderFits n) (extent 2 n 0) _ (λ e. omega arith) (λ e.
+    let within : n ≤ 32 = order-in-range n e .1 in
+    check SmallExtent (leb (byteCount n) given) (extent 1 given 0) _ (λ e. omega (arith, leb-false (byteCount n) given e, bytes-high n within)) (λ e.
+    check SmallExtent (eqb (refusedIn f n) 0) (extent 3 (refusedIn f n) 0) _ (λ e. omega (arith, refused-small f n within)) (λ e.
     check SmallExtent (eqb (padIn f n) 0) (extent 4 0 0) (extent 0 0 (byteCount n)) (λ e. omega arith) (λ e.
-    omega (arith, bytes-high n (order-in-range n within .1)))))))
+    omega (arith, bytes-high n within))))))
 
 -- of the record at the start of some bytes
-pub extent-small : (s : List ℕ) → (recordAt s .refusal ≤ 4) × (recordAt s .bytes ≤ 129)
-unfolding recordAt
-extent-small s = in-small (bitOf s) (orderIn (bitOf s)) (length s)
+pub extent-small : (s : List ℕ) → (recordAt s .refusal ≤ 4) × (recordAt s .place ≤ 496) × (recordAt s .bytes ≤ 129)
+unfolding recordAt orderIn
+extent-small s = in-small (bitOf s) (orderIn (bitOf s)) (length s) (num-below (bitOf s) (bit-small s) 0 6)
 
 -- and so does reading its graph
-pub read-refusal : (s : List ℕ) → readAnswer s .refusal ≤ 4
+pub read-small : (s : List ℕ) → (readAnswer s .refusal ≤ 4) × (readAnswer s .place ≤ 496)
 unfolding readAnswer
-read-refusal s = extent-small s .0
+read-small s = (extent-small s .0, extent-small s .1)
 
--- writing refuses by a number up to 8, and writes at most 129 bytes
+-- writing refuses by a number up to 8, with place 0, and writes at most 129 bytes
 abbrev SmallWritten : Written → Type 0
-SmallWritten x = (x .refusal ≤ 8) × (x .written ≤ 129)
+SmallWritten x = (x .refusal ≤ 8) × (x .place ≡ 0) × (x .written ≤ 129)
 
 -- by the checks one after the other
-pub written-small : (g : Graph) (out : List ℕ) → (writeAnswer g out .refusal ≤ 8) × (writeAnswer g out .written ≤ 129)
+pub written-small : (g : Graph) (out : List ℕ) → (writeAnswer g out .refusal ≤ 8) × (writeAnswer g out .place ≡ 0) × (writeAnswer g out .written ≤ 129)
 unfolding writeAnswer
 written-small g out =
     check SmallWritten (wellFormed g) (written 8 0) _ (λ e. omega arith) (λ well.
@@ -95,6 +110,7 @@ pub record Bounded (budget : ℕ) (a : Judged) : Type 0 where
   pub literals-few : a .literals ≤ 496
   pub code-small : told (a .verdict) .code ≤ 136
   pub steps-within : told (a .verdict) .steps ≤ budget
+  pub place-small : told (a .verdict) .place ≤ 496
 
 -- the standing pair is one of 1..n
 stands-between : (g : Graph) (p : List ℕ) (k : Pair) → StandsIn (entryAt g) (image p) (pairs (g .order)) k → Between 1 (g .order) k
@@ -120,6 +136,7 @@ judged-bounded g budget room = at (judged-in-words g budget room)
           literals-few = omega arith;
           code-small = omega arith;
           steps-within = l;
+          place-small = omega arith;
         }
 
 -- and so does judging a record
@@ -129,7 +146,7 @@ record-bounded s budget room = go (eqb (readAnswer s .refusal) 0)
   where
     go : (t : Bool) → Bounded budget (pick t (judgeAnswer (readAnswer s .graph) budget room) (without (Refused (readAnswer s .refusal) (readAnswer s .place))))
     go true = judged-bounded (readAnswer s .graph) budget room
-    go false = omega (arith, read-refusal s)
+    go false = omega (arith, read-small s)
 
 -- ---- the fields of a judgement
 

@@ -17,12 +17,12 @@ use Rattle.record.specs.Answers.{recordAt, readAnswer, writeAnswer, bufferAfter
 use Rattle.search.specs.Answer.{told, without, judgeAnswer, judgeBuffer}
 use Rattle.cafruzek.specs.Packing.{refusal, lowTold, packed, packedExtent, packedWritten}
 use Rattle.cafruzek.specs.Answers.{arrangedBy, arrangedAfter, judgeRecord, judgeRecordBuffer}
-use Rattle.cafruzek.proofs.Bounds.{extent-small, read-refusal, written-small}
+use Rattle.cafruzek.proofs.Bounds.{extent-small, read-small, written-small}
 
 module _ (s : List ℕ) (r : Record) (is-r : r ≡ readAnswer s) where
   -- reading refuses by a small number
   pub read-number : r .refusal < 128
-  read-number = omega (arith, ap (λ (x : Record). x .refusal) is-r, read-refusal s)
+  read-number = omega (arith, ap (λ (x : Record). x .refusal) is-r, read-small s)
 
   module _ (budget : ℕ) (buffer : List ℤ) (lent : List ℕ) where
     -- ---- a refused reading
