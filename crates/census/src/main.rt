@@ -32,6 +32,7 @@ fn draw_row(edges: &mut [u32; 32], order: u32, i: u32, code: u32) -> u32
 // The graph whose pairs in row order have the bits of a code for entries, the lowest first.
 fn drawn(order: u32, code: u32) -> Graph
     requires { ⌜ order ≤ 32 ⌝ }
+    ensures { λ r. ⌜ r .order ≡ order ⌝ }
 {
     let mut edges = [0u32; 32];
     let mut rest = code;
@@ -105,4 +106,84 @@ fn is_connected(graph: Graph) -> bool
         i += 1;
     }
     u32::count_ones(reached) == order
+}
+
+// 1 where a graph counts, else 0.
+fn one_if(counts: bool) -> u32
+    ensures { λ r. ⌜ r ≤ 1 ⌝ }
+{
+    if counts {
+        return 1;
+    }
+    0
+}
+
+// What the graph with a code adds.
+fn tally_of(order: u32, code: u32) -> Tally
+    requires { ⌜ order ≤ 32 ⌝ }
+    ensures { λ r. ⌜ (r .smallest ≤ 1) × (r .connected ≤ 1) ⌝ }
+{
+    if is_smallest(drawn(order, code)) {
+        return Tally {
+            smallest: 1,
+            connected: one_if(is_connected(drawn(order, code))),
+        };
+    }
+    Tally {
+        smallest: 0,
+        connected: 0,
+    }
+}
+
+// What all graphs of an order come to.
+fn tally_all(order: u32, codes: u32) -> Tally
+    requires { ⌜ order ≤ 32 ⌝ }
+{
+    let mut smallest = 0;
+    let mut connected = 0;
+    let mut code = 0;
+    while code < codes {
+        let one = tally_of(order, code);
+        smallest += one.smallest;
+        connected += one.connected;
+        code += 1;
+    }
+    Tally {
+        smallest,
+        connected,
+    }
+}
+
+fn text(words: &[u8]) {
+    io::write_all(STDOUT_FILENO, words);
+}
+
+fn number(n: u32) {
+    io::print_decimal(STDOUT_FILENO, n as u64);
+}
+
+// The line of an order, which has so many graphs.
+fn show(order: u32, codes: u32)
+    requires { ⌜ order ≤ 32 ⌝ }
+{
+    let all = tally_all(order, codes);
+    text(b"order ");
+    number(order);
+    text(b": ");
+    number(all.smallest);
+    text(b" of ");
+    number(codes);
+    text(b" graphs are judged none, ");
+    number(all.connected);
+    text(b" of these are connected\n");
+}
+
+fn main() {
+    show(1, 1);
+    show(2, 2);
+    show(3, 8);
+    show(4, 64);
+    show(5, 1024);
+    show(6, 32768);
+    show(7, 2097152);
 }
