@@ -1,5 +1,5 @@
 -- The start of a list.
-use Prim.Native.Nat.{ℕ, _≤_, _<_}
+use Prim.Native.Nat.{ℕ, _≤_, _<_, min}
 use native.Mathlib.Omega.{arith}
 use mathlib.Core.Path.{_≡_, sym}
 use mathlib.Core.List.{List}
@@ -14,3 +14,7 @@ module _ {A : Type 0} (n : ℕ) (l : List A) where
   -- of a list that is no longer it is the whole
   pub taken-whole : length l ≤ n → l ≡ take n l
   taken-whole h = sym (take-all n l h)
+
+-- the used part of a buffer has as many bytes as a function put there that goes as far as there is room
+pub used-long : (old out : List ℕ) (a r : ℕ) → r ≡ min a (length old) → length out ≡ length old → length (take r out) ≡ r
+used-long old out a r e k = length-take-le r out (omega arith)

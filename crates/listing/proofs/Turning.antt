@@ -5,8 +5,8 @@ use borrow.Author.Tests.{eq-eqb, ne-eqb}
 use mathlib.Core.Path.{_≡_, sym, ap, _∙_}
 use mathlib.Core.List.{List, _++_}
 use lib.IntN.{ℤ, pos}
-use lib.ListN.{length, take, drop, length-drop, length-replicate}
-use lib.Seq.{length-take-le, take-all}
+use lib.ListN.{length, drop, length-drop, length-replicate}
+use lib.Seq.{take-all}
 use lib.Dec.{eqb}
 use Rattle.laws.specs.TestLaws.{pick-true, pick-false}
 use Rattle.record.specs.declared.Record.{Record}
@@ -81,9 +81,3 @@ module _ (number : ℕ) (s old out : List ℕ) (found : Record) (judged : Judged
         taken-is = ap (λ (l : List ℕ). length s - length l) is-rest;
         refusal-is = ap (λ (f : Record). f .refusal) is-found;
       }
-
--- ---- what is written out
-
--- the used part of a buffer has as many bytes as were put there
-pub used-long : (old out : List ℕ) (a r : ℕ) → r ≡ min a (length old) → length out ≡ length old → length (take r out) ≡ r
-used-long old out a r e k = length-take-le r out (omega arith)
