@@ -1,9 +1,9 @@
 -- The code of a line, part after part.
 use Prim.Native.Nat.{ℕ}
-use mathlib.Core.Path.{_≡_, refl, sym, ap, _∙_}
+use mathlib.Core.Path.{_≡_}
 use mathlib.Core.List.{List, [], _∷_, _++_, append-assoc}
 use lib.IntN.{ℤ}
-use Rattle.line.specs.Page.{Page, page, pushed, written}
+use Rattle.line.specs.Page.{Page, pushed, written}
 use Rattle.line.specs.Decimal.{decimal, signed}
 use Rattle.line.specs.Fields.{listed}
 use Rattle.line.specs.Line.{spaced, lineOf}

@@ -1,6 +1,6 @@
 -- The listing of the rules' example, computed.
 use mathlib.Core.Path.{_≡_, refl}
-use mathlib.Core.List.{[], _∷_}
+use mathlib.Core.List.{_∷_}
 use lib.IntN.{pos, negsuc}
 use lib.ListN.{replicate}
 use Rattle.search.specs.declared.Verdict.the-variants.{Smaller, Nothing, Refused}

@@ -1,13 +1,12 @@
 -- The lines of a book, record after record.
-use Prim.Native.Nat.{ℕ, zero, suc, _-_, _≤_, _<_}
+use Prim.Native.Nat.{ℕ, zero, suc, _≤_, _<_}
 use native.Mathlib.Omega.{arith}
 use borrow.Author.Tests.{eq-eqb, ne-eqb, eqb-true, eqb-false}
-use mathlib.Core.Path.{_≡_, refl, sym, ap, _∙_}
+use mathlib.Core.Path.{_≡_, refl, ap, _∙_}
 use mathlib.Core.Logic.{⊎-elim}
 use mathlib.Core.Bool.{Bool, true, false}
 use mathlib.Core.List.{List, [], _∷_, _++_, append-nil}
-use lib.ListN.{length, drop, length-drop}
-use lib.Seq.{drop-drop}
+use lib.ListN.{length, length-drop}
 use lib.Dec.{eqb}
 use Rattle.laws.specs.Test.{pick}
 use Rattle.laws.specs.TestLaws.{holds-or-fails, pick-true, pick-false}
@@ -33,11 +32,13 @@ order-small s =
 
 -- ---- how many records are read at most does not matter, where it is as many as there are bytes
 
+-- two lists are picked alike where they are the same if the test holds
 same-rest : (t : Bool) (x y : List ℕ) → (t ≡ true → x ≡ y) → pick t x [] ≡ pick t y []
 unfolding pick
 same-rest true x y h = h refl
 same-rest false x y h = refl
 
+-- so of any two such limits
 lines-same : (k m number : ℕ) (s : List ℕ) → length s ≤ k → length s ≤ m → linesUpTo k number s ≡ linesUpTo m number s
 unfolding linesUpTo
 lines-same zero zero number s h l = refl

@@ -2,7 +2,7 @@
 use Prim.Native.Nat.{ℕ, _-_, _≤_, min}
 use native.Mathlib.Omega.{arith}
 use borrow.Author.Tests.{eq-eqb, ne-eqb}
-use mathlib.Core.Path.{_≡_, refl, sym, ap, _∙_}
+use mathlib.Core.Path.{_≡_, sym, ap, _∙_}
 use mathlib.Core.List.{List, _++_}
 use lib.IntN.{ℤ, pos}
 use lib.ListN.{length, drop, length-drop, length-replicate}
@@ -17,7 +17,6 @@ use Rattle.search.specs.Answer.{without, judgeAnswer, judgeBuffer}
 use Rattle.line.specs.Page.{poured}
 use Rattle.line.specs.Line.{judgedLine}
 use Rattle.line.proofs.Room.{line-room}
-use Rattle.listing.specs.declared.lines.Turn.{Turn}
 use Rattle.listing.specs.Listing.{budget, scratch, judgedRecord, literalsOf, recordLine}
 use Rattle.listing.specs.Progress.{Put}
 use Rattle.listing.proofs.Book.{order-small}
@@ -25,6 +24,7 @@ use Rattle.listing.proofs.Book.{order-small}
 -- ---- a record is judged, or refused
 
 module _ (found : Record) (r : Judged) (buffer out : List ℤ) where
+  -- a record that reading refused
   pub answers-refused : (found .refusal ≡ 0 → ⊥) → r ≡ without (Refused (found .refusal) (found .place)) → out ≡ buffer → (r ≡ judgedRecord found (length buffer)) × (out ≡ literalsOf found buffer)
   unfolding judgedRecord literalsOf
   answers-refused h e k =
@@ -33,6 +33,7 @@ module _ (found : Record) (r : Judged) (buffer out : List ℤ) where
         k ∙ sym (pick-false (eqb (found .refusal) 0) (judgeBuffer (found .graph) budget buffer) buffer t),
       )
 
+  -- a record that was read
   pub answers-judged : found .refusal ≡ 0 → (r ≡ judgeAnswer (found .graph) budget (length buffer)) × (out ≡ judgeBuffer (found .graph) budget buffer) → (r ≡ judgedRecord found (length buffer)) × (out ≡ literalsOf found buffer)
   unfolding judgedRecord literalsOf
   answers-judged h e =
@@ -43,6 +44,7 @@ module _ (found : Record) (r : Judged) (buffer out : List ℤ) where
 
 -- ---- what follows the record
 
+-- it is no longer than the bytes
 pub rest-within : (s rest : List ℕ) → rest ≡ restOf s → length rest ≤ length s
 unfolding restOf
 rest-within s rest e = rw (e, length-drop ((recordAt s) .bytes) s) (omega arith)
