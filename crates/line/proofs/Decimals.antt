@@ -36,11 +36,13 @@ ten-divides k r h = rw h (ten-positive k)
 
 -- ---- a digit
 
+-- the code's digit
 pub digit-is : (n k r : ℕ) → r ≡ 10 ^ k → 48 + n / r % 10 ≡ 48 + n / 10 ^ k % 10
 digit-is n k r h = rw h
 
 -- ---- the count of digits
 
+-- one digit more where k are too few
 pub fewest-turns : (n k m r : ℕ) → fewest (10 - k) k n ≡ m → k < 10 → r ≡ 10 ^ k → r ≤ n → fewest (10 - (k + 1)) (k + 1) n ≡ m
 unfolding fewest pick
 fewest-turns n k m r h l e b =
@@ -48,6 +50,7 @@ fewest-turns n k m r h l e b =
     let t : 10 ^ k ≤ n = rw e at b in
     rw (add-one k) (rw (s, le-ltb n (10 ^ k) t, add-one k) at h)
 
+-- k digits are enough
 pub fewest-stops : (n k m r : ℕ) → fewest (10 - k) k n ≡ m → k < 10 → r ≡ 10 ^ k → n < r → k ≡ m
 unfolding fewest pick
 fewest-stops n k m r h l e b =
@@ -55,6 +58,7 @@ fewest-stops n k m r h l e b =
     let t : n < 10 ^ k = rw e at b in
     rw (s, lt-ltb n (10 ^ k) t) at h
 
+-- 10 digits are enough for any word
 pub fewest-done : (n k m : ℕ) → fewest (10 - k) k n ≡ m → 10 ≤ k → k ≡ m
 unfolding fewest pick
 fewest-done n k m h b =
@@ -63,16 +67,19 @@ fewest-done n k m h b =
 
 -- ---- the digits
 
+-- all digits are to come
 pub digits-start : (p : Page) (n k : ℕ) → k ≡ fewest 9 1 n → written p (digits k n) ≡ written p (decimal n)
 unfolding decimal
 digits-start p n k h = rw h
 
+-- the next digit
 pub digits-turn : (p : Page) (n k b : ℕ) (out out′ all : List ℕ) (at at′ : ℕ) → written (page out at) (digits k n) ≡ written p all → 0 < k → b ≡ 48 + n / 10 ^ (k - 1) % 10 → page out′ at′ ≡ pushed (page out at) b → written (page out′ at′) (digits (k - 1) n) ≡ written p all
 unfolding written digits
 digits-turn p n k b out out′ all at at′ h l e q =
     let s : k ≡ suc (k - 1) = omega arith in
     rw (q, e) (rw s at h)
 
+-- no digit is left
 pub digits-done : (p : Page) (n k : ℕ) (out all : List ℕ) (at : ℕ) → written (page out at) (digits k n) ≡ written p all → k ≤ 0 → page out at ≡ written p all
 unfolding written digits
 digits-done p n k out all at h l =

@@ -18,16 +18,19 @@ use Rattle.line.specs.Line.{spaced, lineOf, verdictLine, judgedLine}
 
 -- ---- a number
 
+-- k digits are k characters
 digits-length : (k n : ℕ) → length (digits k n) ≡ k
 unfolding digits
 digits-length zero n = refl
 digits-length (suc k) n = ap suc (digits-length k n)
 
+-- what is picked of two numbers is at most m where both are
 picked-below : (t : Bool) (x y m : ℕ) → x ≤ m → y ≤ m → pick t x y ≤ m
 unfolding pick
 picked-below true x y m a b = a
 picked-below false x y m a b = b
 
+-- the count of digits stays within its limit
 fewest-bounded : (more k n : ℕ) → fewest more k n ≤ k + more
 unfolding fewest
 fewest-bounded zero k n = omega arith
@@ -47,11 +50,13 @@ signed-short (negsuc k) = omega (arith, decimal-short (suc k))
 -- ---- a list
 
 module _ {A : Type 0} (f : A → List ℕ) (short : (x : A) → length (f x) ≤ 11) where
+  -- each element takes a comma and at most 11 characters
   others-short : (l : List A) → length (others f l) ≤ 12 * length l
   unfolding others
   others-short [] = omega arith
   others-short (x ∷ l) = rw (length-append (f x) (others f l)) (omega (arith, short x, others-short l))
 
+  -- the first has no comma, and a dash is one character
   listed-short : (l : List A) → length (listed f l) ≤ 1 + 12 * length l
   unfolding listed
   listed-short [] = omega arith
@@ -59,19 +64,19 @@ module _ {A : Type 0} (f : A → List ℕ) (short : (x : A) → length (f x) ≤
 
 -- ---- a line
 
+-- the space is one character
 spaced-length : (f : List ℕ) → length (spaced f) ≡ length f + 1
 unfolding spaced
 spaced-length f = length-append f (32 ∷ [])
 
-number-short : (n : ℕ) → length (spaced (decimal n)) ≤ 11
-number-short n = rw (spaced-length (decimal n)) (omega (arith, decimal-short n))
-
+-- a line has 67 characters at most beside its lists
 line-short : (number order row column steps : ℕ) (verdict arrangement : List ℕ) (clause : List ℤ) → length verdict ≤ 7 → length (lineOf number order verdict row column steps arrangement clause) ≤ 67 + 12 * length arrangement + 12 * length clause
 unfolding lineOf
 line-short number order row column steps verdict arrangement clause h =
     simp (length-append, spaced-length)
     (omega (arith, decimal-short number, decimal-short order, decimal-short row, decimal-short column, decimal-short steps, listed-short decimal (λ x. omega (arith, decimal-short x)) arrangement, listed-short signed signed-short clause))
 
+-- and so for each verdict
 verdict-short : (number order : ℕ) (v : Verdict) (arrangement : List ℕ) (clause : List ℤ) → length (verdictLine number order v arrangement clause) ≤ 67 + 12 * length arrangement + 12 * length clause
 unfolding verdictLine bytesOf
 verdict-short number order (Smaller row column steps) arrangement clause = line-short number order row column steps (bytesOf "smaller") arrangement clause (omega arith)

@@ -32,11 +32,13 @@ order-small s =
 
 -- ---- how many records are read at most does not matter, where it is as many as there are bytes
 
+-- two lists are picked alike where they are the same if the test holds
 same-rest : (t : Bool) (x y : List ℕ) → (t ≡ true → x ≡ y) → pick t x [] ≡ pick t y []
 unfolding pick
 same-rest true x y h = h refl
 same-rest false x y h = refl
 
+-- so of any two such limits
 lines-same : (k m number : ℕ) (s : List ℕ) → length s ≤ k → length s ≤ m → linesUpTo k number s ≡ linesUpTo m number s
 unfolding linesUpTo
 lines-same zero zero number s h l = refl

@@ -48,18 +48,23 @@ drop-taken (suc b) (x ∷ s) =
 module _ (book : List ℕ) (at number : ℕ) (out : List ℕ) (used from n : ℕ) (last : List ℕ) (turn : Turn)
     (before : SoFar book at number out used from n)
     (put : Put n (take (length book - from) (drop from book)) (take (length out - used) (drop used out)) last turn) where
+  -- the part of the book that is lent
   bytes-are : take (length book - from) (drop from book) ≡ drop from book
   bytes-are = take-all (length book - from) (drop from book) (rw (length-drop from book) (omega arith))
 
+  -- the part of the buffer that is lent
   room-is : take (length out - used) (drop used out) ≡ drop used out
   room-is = take-all (length out - used) (drop used out) (rw (length-drop used out) (omega arith))
 
+  -- the bytes of the new line
   written-is : turn .written ≡ length (recordLine n (drop from book))
   written-is = rw bytes-are at (put .length-is)
 
+  -- what the lent part of the buffer holds afterwards
   last-is : last ≡ recordLine n (drop from book) ++ drop (length (recordLine n (drop from book))) (drop used out)
   last-is = rw (bytes-are, room-is) at (put .text-is)
 
+  -- the used part
   used-long : length (take used out) ≡ used
   used-long = length-take-le used out (omega (arith, before .room))
 
@@ -75,9 +80,11 @@ module _ (book : List ℕ) (at number : ℕ) (out : List ℕ) (used from n : ℕ
       rw last-is
       (take-middle (take used out) (recordLine n (drop from book)) (drop (length (recordLine n (drop from book))) (drop used out)) (drop (length out - used) (drop used out)) used (turn .written) used-long (sym written-is))
 
+  -- there is a byte to be read
   some : 1 ≤ length (drop from book)
   some = rw (length-drop from book) (omega (arith, before .below))
 
+  -- whether the record was refused
   refusal-is : turn .refusal ≡ (readAnswer (drop from book)) .refusal
   refusal-is = rw bytes-are at (put .refusal-is)
 
@@ -94,12 +101,15 @@ module _ (book : List ℕ) (at number : ℕ) (out : List ℕ) (used from n : ℕ
       }
 
   module _ (fine : turn .refusal ≡ 0) where
+    -- it was accepted
     read-fine : (readAnswer (drop from book)) .refusal ≡ 0
     read-fine = sym refusal-is ∙ fine
 
+    -- what follows it is shorter
     shorter : length (restOf (drop from book)) < length (drop from book)
     shorter = rest-shorter (drop from book) read-fine some
 
+    -- the bytes of the record
     taken-is : turn .taken ≡ length (drop from book) - length (restOf (drop from book))
     taken-is = rw bytes-are at (put .taken-is)
 
@@ -112,6 +122,7 @@ module _ (book : List ℕ) (at number : ℕ) (out : List ℕ) (used from n : ℕ
     unfolding restOf
     rest-at = rw (← drop-drop (turn .taken) from book, taken-is) (drop-taken ((recordAt (drop from book)) .bytes) (drop from book))
 
+    -- the lines so far, the new one and those that follow
     shown-on : take (used + turn .written) (putMid used (length out - used) out last) ++ linesOf (n + 1) (drop (from + turn .taken) book) ≡ linesOf number (drop at book)
     shown-on =
         rw (after-is, rest-at, add-one n, append-assoc (take used out) (recordLine n (drop from book)) (linesOf (suc n) (restOf (drop from book))), ← lines-go-on n (drop from book) some read-fine)

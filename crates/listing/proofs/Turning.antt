@@ -24,6 +24,7 @@ use Rattle.listing.proofs.Book.{order-small}
 -- ---- a record is judged, or refused
 
 module _ (found : Record) (r : Judged) (buffer out : List ℤ) where
+  -- a record that reading refused
   pub answers-refused : (found .refusal ≡ 0 → ⊥) → r ≡ without (Refused (found .refusal) (found .place)) → out ≡ buffer → (r ≡ judgedRecord found (length buffer)) × (out ≡ literalsOf found buffer)
   unfolding judgedRecord literalsOf
   answers-refused h e k =
@@ -32,6 +33,7 @@ module _ (found : Record) (r : Judged) (buffer out : List ℤ) where
         k ∙ sym (pick-false (eqb (found .refusal) 0) (judgeBuffer (found .graph) budget buffer) buffer t),
       )
 
+  -- a record that was read
   pub answers-judged : found .refusal ≡ 0 → (r ≡ judgeAnswer (found .graph) budget (length buffer)) × (out ≡ judgeBuffer (found .graph) budget buffer) → (r ≡ judgedRecord found (length buffer)) × (out ≡ literalsOf found buffer)
   unfolding judgedRecord literalsOf
   answers-judged h e =
@@ -42,6 +44,7 @@ module _ (found : Record) (r : Judged) (buffer out : List ℤ) where
 
 -- ---- what follows the record
 
+-- it is no longer than the bytes
 pub rest-within : (s rest : List ℕ) → rest ≡ restOf s → length rest ≤ length s
 unfolding restOf
 rest-within s rest e = rw (e, length-drop ((recordAt s) .bytes) s) (omega arith)

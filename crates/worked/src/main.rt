@@ -52,23 +52,29 @@ fn write(name: &[u8], bytes: &[u8]) {
     text(b"\n");
 }
 
-fn graphs() {
+fn small_graphs() {
     judge(b"n=1", &[0x04], 1000000);
     write(b"n=1", &[0x04]);
     judge(b"n=2 u", &[0x09, 0x00], 1000000);
     write(b"n=2 u", &[0x09, 0x00]);
     write(b"n=2 1", &[0x08, 0x80]);
+}
+
+fn budgets() {
     judge(b"100", &[0x0c, 0x40], 1000000);
     judge(b"100, budget 3", &[0x0c, 0x40], 3);
     judge(b"100, budget 0", &[0x0c, 0x40], 0);
 }
 
-fn more_graphs() {
+fn drawn_graphs() {
     judge(b"001", &[0x0c, 0x04], 1000000);
     judge(b"011", &[0x0c, 0x14], 1000000);
     judge(b"111", &[0x0c, 0x54], 1000000);
     judge(b"010", &[0x0c, 0x10], 1000000);
     judge(b"110", &[0x0c, 0x50], 1000000);
+}
+
+fn blocks_and_unknowns() {
     judge(b"100 in {1},{2},{3}", &[0x0f, 0x40], 1000000);
     judge(b"010 in {1,2},{3}", &[0x0d, 0x10], 1000000);
     judge(b"uuu", &[0x0c, 0xa8], 1000000);
@@ -112,6 +118,9 @@ fn records() {
     read(b"order 33", &[0x84]);
     read(b"0C 70", &[0x0c, 0x70]);
     read(b"0C 41", &[0x0c, 0x41]);
+}
+
+fn fields() {
     field(b"a field past two bytes", 16, 1);
     field(b"a field of width 0", 0, 0);
     field(b"a field of width 7", 0, 7);
@@ -165,7 +174,7 @@ fn places(a: u8, b: u8, c: u8) -> [u8; 32] {
     p
 }
 
-fn values() {
+fn entries() {
     let zero = sample().read(0, 1);
     refusal(b"the entry (0,1) of 100", zero.refusal, zero.place);
     let past = sample().read(1, 4);
@@ -178,6 +187,9 @@ fn values() {
         degree.refusal,
         degree.place,
     );
+}
+
+fn changes() {
     let changed = sample().set(1, 2, 3);
     refusal(b"setting (1,2) of 100 to 3", changed.refusal, changed.place);
     let moved = sample().relabel(places(1, 1, 3));
@@ -189,11 +201,15 @@ fn values() {
 }
 
 fn main() {
-    graphs();
-    more_graphs();
+    small_graphs();
+    budgets();
+    drawn_graphs();
+    blocks_and_unknowns();
     records();
+    fields();
     rooms();
     short_buffer();
     malformed();
-    values();
+    entries();
+    changes();
 }
