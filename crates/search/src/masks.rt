@@ -83,6 +83,20 @@ fn block_mask(numbers: &[u8; 32], n: u32, i: u32) -> u32
     mask
 }
 
+// The block of place i + 1 as a mask, from that of the place before it.
+fn next_mask(numbers: &[u8; 32], n: u32, i: u32, mask: u32) -> u32
+    requires { ⌜ (n ≤ 32) × (i < n) × (mask ≡ blockMask (at (now numbers)) n i) ⌝ }
+    ensures { λ r. ⌜ r ≡ blockMask (at (now (numbers .entry))) n (i + 1) ⌝ }
+{
+    if i == 0 {
+        return mask;
+    }
+    if same_block(numbers, i + 1, i) == 1 {
+        return mask;
+    }
+    block_mask(numbers, n, i + 1)
+}
+
 // The block of each place of 1..n as a mask.
 pub fn block_masks(n: u32, starts: u32) -> [u32; 32]
     requires { ⌜ n ≤ 32 ⌝ }
@@ -90,10 +104,12 @@ pub fn block_masks(n: u32, starts: u32) -> [u32; 32]
 {
     let numbers = block_numbers(starts);
     let mut out = [0u32; 32];
+    let mut mask = block_mask(&numbers, n, 1);
     let mut i = 0;
     while i < n {
+        mask = next_mask(&numbers, n, i, mask);
         let at = i as usize;
-        out[at] = block_mask(&numbers, n, i + 1);
+        out[at] = mask;
         i += 1;
     }
     out

@@ -2,32 +2,33 @@ use borrow.Author.Needs.{needs}
 use Prim.Native.Nat.{_-_, _≤_}
 use mathlib.Core.Path.{_≡_}
 use Rattle.graph.specs.Graph.{blockOf, placed}
+use Rattle.graph.specs.Arrangement.{at}
+use Rattle.graph.proofs.CodePlaces.{placed-starts, placed-done}
 use Rattle.search.specs.Masks.{blockMask}
-use Rattle.graph.proofs.CodePlaces.{placed-starts, placed-turns, placed-done}
-use Rattle.search.proofs.CodeMasks.{held-mask}
+use Rattle.search.proofs.CodeMasks.{mask-first, masks-more}
 use Rattle.search.proofs.masks.block_masks.Statement.{statement}
 use Rattle.search.proofs.masks.block_masks.Tie as tie
 
 abbrev Inv-loop : tie.InvT-loop
-Inv-loop n starts numbers out₀ i₀ out i = (i ≤ n) × (numbers ≡ placed (blockOf starts) 32) × (out ≡ placed (blockMask (blockOf starts) n) i)
+Inv-loop n starts numbers out₀ mask₀ i₀ out mask i = (i ≤ n) × (numbers ≡ placed (blockOf starts) 32) × (mask ≡ blockMask (at numbers) n i) × (out ≡ placed (blockMask (blockOf starts) n) i)
 
 abbrev μ-loop : tie.MeasureT-loop
-μ-loop n starts numbers out₀ i₀ out i = n - i
+μ-loop n starts numbers out₀ mask₀ i₀ out mask i = n - i
 
 block-numbers-requires : tie.Need-block-numbers-requires Inv-loop μ-loop
 block-numbers-requires c κs = search needs
 
+block-mask-requires : tie.Need-block-mask-requires Inv-loop μ-loop
+block-mask-requires c κs = search needs
+
 loop-holds : tie.Need-loop-holds Inv-loop μ-loop
-loop-holds c = (search needs, search needs, search placed-starts)
+loop-holds c = (search needs, search needs, search mask-first, search placed-starts)
+
+next-mask-requires : tie.Need-next-mask-requires Inv-loop μ-loop
+next-mask-requires c κs = search needs
 
 cast-at : tie.Need-cast-at Inv-loop μ-loop
 cast-at c = search needs
-
-add-block-mask : tie.Need-add-block-mask Inv-loop μ-loop
-add-block-mask c = search needs
-
-block-mask-requires : tie.Need-block-mask-requires Inv-loop μ-loop
-block-mask-requires c κs = search needs
 
 mul-out : tie.Need-mul-out Inv-loop μ-loop
 mul-out c = search needs
@@ -42,7 +43,7 @@ loop-less : tie.Need-loop-less Inv-loop μ-loop
 loop-less c = search needs
 
 loop-again : tie.Need-loop-again Inv-loop μ-loop
-loop-again c = (search needs, search needs, search (placed-turns, held-mask))
+loop-again c = (search needs, search needs, search needs, search masks-more)
 
 returns : tie.Need-returns Inv-loop μ-loop
 returns c = search (placed-done, needs)
@@ -54,10 +55,10 @@ block-masks-spec =
     Inv-loop
     μ-loop
     block-numbers-requires
-    loop-holds
-    cast-at
-    add-block-mask
     block-mask-requires
+    loop-holds
+    next-mask-requires
+    cast-at
     mul-out
     array-write-out
     add-i
