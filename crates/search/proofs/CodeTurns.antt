@@ -77,12 +77,19 @@ vertex-low k p i v w e l h = rw e (w .low i l h)
 pub vertex-high : (k : ℕ) (p : List ℕ) (i v : ℕ) → Within k p → v ≡ at p i → 1 ≤ i → i ≤ k → v ≤ 32
 vertex-high k p i v w e l h = rw e (w .high i l h)
 
+-- and at a place that has one after it
+pub earlier-low : (k : ℕ) (p : List ℕ) (i v : ℕ) → Within k p → v ≡ at p i → 1 ≤ i → i < k → 1 ≤ v
+earlier-low k p i v w e l h = vertex-low k p i v w e l (omega arith)
+
+pub earlier-high : (k : ℕ) (p : List ℕ) (i v : ℕ) → Within k p → v ≡ at p i → 1 ≤ i → i < k → v ≤ 32
+earlier-high k p i v w e l h = vertex-high k p i v w e l (omega arith)
+
 module _ (t : Pair → ℕ) where
   code-first : (k : Pair) (ks : List Pair) → (t k ≡ 0 → ⊥) → walkCode t (k ∷ ks) ≡ t k
   unfolding walkCode pick
   code-first k ks h = rw (ne-eqb (t k) 0 h)
 
-  code-rest : (k : Pair) (ks : List Pair) → t k ≡ 0 → walkCode t (k ∷ ks) ≡ walkCode t ks
+  pub code-rest : (k : Pair) (ks : List Pair) → t k ≡ 0 → walkCode t (k ∷ ks) ≡ walkCode t ks
   unfolding walkCode pick
   code-rest k ks h = rw (eq-eqb (t k) 0 h)
 
