@@ -48,16 +48,16 @@ later-all n p b a =
           ap (λ (x : ℕ). x % 2) (shr-shr allMarks (32 - n) (at p j - 1)) ∙ all-bits (32 - n + (at p j - 1)) (omega arith);
     }
 
-pub place-low : (n i : ℕ) (p : List ℕ) → Arranged n p → 1 ≤ i → i ≤ n → 1 ≤ at p i
-place-low n i p a l h = a .within .low i l h
+pub early-low : (n i : ℕ) (p : List ℕ) → Arranged n p → 1 ≤ i → i ≤ 3 → 3 ≤ n → 1 ≤ at p i
+early-low n i p a l h k = a .within .low i l (omega arith)
 
-pub place-high : (n i : ℕ) (p : List ℕ) → Arranged n p → 1 ≤ i → i ≤ n → at p i ≤ 32
-place-high n i p a l h = a .within .high i l h
+pub early-high : (n i : ℕ) (p : List ℕ) → Arranged n p → 1 ≤ i → i ≤ 3 → 3 ≤ n → at p i ≤ 32
+early-high n i p a l h k = a .within .high i l (omega arith)
 
-pub row-low : (n i : ℕ) (p : List ℕ) → Arranged n p → 2 ≤ i → i < n → 1 ≤ at p i
+pub row-low : (n i : ℕ) (p : List ℕ) → Arranged n p → 3 ≤ i → i < n → 1 ≤ at p i
 row-low n i p a l h = a .within .low i (omega arith) (omega arith)
 
-pub row-high : (n i : ℕ) (p : List ℕ) → Arranged n p → 2 ≤ i → i < n → at p i ≤ 32
+pub row-high : (n i : ℕ) (p : List ℕ) → Arranged n p → 3 ≤ i → i < n → at p i ≤ 32
 row-high n i p a l h = a .within .high i (omega arith) (omega arith)
 
 pub without-is : (mask v x w r : ℕ) → v ≡ x → w ≡ 2 ^ (v - 1) → r ≡ mask - bitAnd mask w → r ≡ mask - bitAnd mask (2 ^ (x - 1))
@@ -74,13 +74,15 @@ later-less n i p mask a s l b =
           bit-of-without mask (2 ^ (at p i - 1)) (at p j - 1) ∙ rw (s .has j (omega arith) h, bit-of-power-other (at p i - 1) (at p j - 1) (λ q. apart (omega arith)));
     }
 
-pub later-starts : (n : ℕ) (p : List ℕ) (r : ℕ) → Arranged n p → 1 ≤ n → n ≤ 32 → r ≡ allMarks / 2 ^ (32 - n) - bitAnd (allMarks / 2 ^ (32 - n)) (2 ^ (at p 1 - 1)) → Later n (2 - 1) p r
-later-starts n p r a l b e = rw e (later-less n 1 p (allMarks / 2 ^ (32 - n)) a (later-all n p b a) (omega arith) l)
+pub later-starts : (n : ℕ) (p : List ℕ) (all r : ℕ) → Arranged n p → 3 ≤ n → n ≤ 32 → all ≡ allMarks / 2 ^ (32 - n) - bitAnd (allMarks / 2 ^ (32 - n)) (2 ^ (at p 1 - 1))
+    → r ≡ all - bitAnd all (2 ^ (at p 2 - 1)) → Later n (3 - 1) p r
+later-starts n p all r a l b e q =
+    rw (q, e) (later-less n 2 p _ a (later-less n 1 p (allMarks / 2 ^ (32 - n)) a (later-all n p b a) (omega arith) (omega arith)) (omega arith) (omega arith))
 
-pub later-more : (n i : ℕ) (p : List ℕ) (mask r : ℕ) → Arranged n p → Later n (i - 1) p mask → 2 ≤ i → i < n → r ≡ mask - bitAnd mask (2 ^ (at p i - 1)) → Later n i p r
+pub later-more : (n i : ℕ) (p : List ℕ) (mask r : ℕ) → Arranged n p → Later n (i - 1) p mask → 3 ≤ i → i < n → r ≡ mask - bitAnd mask (2 ^ (at p i - 1)) → Later n i p r
 later-more n i p mask r a s l b e = rw e (later-less n i p mask a s (omega arith) (omega arith))
 
-pub later-again : (n i : ℕ) (p : List ℕ) (mask r : ℕ) → Arranged n p → Later n (i - 1) p mask → 2 ≤ i → i < n → r ≡ mask - bitAnd mask (2 ^ (at p i - 1)) → Later n (i + 1 - 1) p r
+pub later-again : (n i : ℕ) (p : List ℕ) (mask r : ℕ) → Arranged n p → Later n (i - 1) p mask → 3 ≤ i → i < n → r ≡ mask - bitAnd mask (2 ^ (at p i - 1)) → Later n (i + 1 - 1) p r
 later-again n i p mask r a s l b e = let place : i + 1 - 1 ≡ i = omega arith in rw place (later-more n i p mask r a s l b e)
 
 -- ---- rows that are alike

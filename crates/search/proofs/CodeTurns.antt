@@ -151,3 +151,15 @@ module _ (t : Pair → ℕ) where
     pub rows-over : n ≤ i → 0 ≡ whole
     unfolding fromRow walkCode
     rows-over h = let s : n - i ≡ 0 = omega arith in rw s at left
+
+  -- the second row, and the rows after it
+
+  pub second-none : (n : ℕ) → n < 3 → 0 ≡ walkCode t (fromRow 2 (n - 2))
+  second-none n h = rows-over n 2 (walkCode t (fromRow 2 (n - 2))) refl (omega arith)
+
+  module _ (n c : ℕ) (h : 3 ≤ n) (e : c ≡ walkCode t (alongRow 2 3 (n + 1 - 3))) where
+    pub second-ends : (c ≡ 0 → ⊥) → c ≡ walkCode t (fromRow 2 (n - 2))
+    second-ends z = rows-end n 2 (walkCode t (fromRow 2 (n - 2))) refl c (omega arith) e z
+
+    pub second-goes-on : c ≡ 0 → (r : ℕ) → r ≡ walkCode t (fromRow 3 (n - 3)) → r ≡ walkCode t (fromRow 2 (n - 2))
+    second-goes-on z r q = q ∙ rows-go-on n 2 (walkCode t (fromRow 2 (n - 2))) refl c (omega arith) e z

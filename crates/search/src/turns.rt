@@ -154,18 +154,14 @@ fn without_place(mask: u32, path: &[u8; 32], i: u32) -> u32
     without(mask, power(vertex_at(path, i) - 1))
 }
 
-// The walk along the rows after the first.
-pub fn rows_walk<'a>(
-    edges: &'a [u32; 32],
-    unknowns: &'a [u32; 32],
-    path: &'a [u8; 32],
-    n: u32,
-) -> u32
-    requires { ⌜ (1 ≤ n) × (n ≤ 32) × Arranged n (now path) ⌝ }
-    ensures { λ r. ⌜ r ≡ walkCode (turnAt (now (edges .entry)) (now (unknowns .entry)) (now (path .entry))) (fromRow 2 (n - 2)) ⌝ }
+// The walk along the rows after the second.
+fn later_rows<'a>(edges: &'a [u32; 32], unknowns: &'a [u32; 32], path: &'a [u8; 32], n: u32) -> u32
+    requires { ⌜ (3 ≤ n) × (n ≤ 32) × Arranged n (now path) ⌝ }
+    ensures { λ r. ⌜ r ≡ walkCode (turnAt (now (edges .entry)) (now (unknowns .entry)) (now (path .entry))) (fromRow 3 (n - 3)) ⌝ }
 {
-    let mut later = without_place(0xFFFF_FFFF >> (32 - n), path, 1);
-    let mut i = 2;
+    let all = without_place(0xFFFF_FFFF >> (32 - n), path, 1);
+    let mut later = without_place(all, path, 2);
+    let mut i = 3;
     while i < n {
         later = without_place(later, path, i);
         let code = row_walk(edges, unknowns, path, n, i, later);
@@ -176,4 +172,24 @@ pub fn rows_walk<'a>(
         }
     }
     0
+}
+
+// The walk along the rows after the first. Most walks end in the second, which is walked pair by pair.
+pub fn rows_walk<'a>(
+    edges: &'a [u32; 32],
+    unknowns: &'a [u32; 32],
+    path: &'a [u8; 32],
+    n: u32,
+) -> u32
+    requires { ⌜ (n ≤ 32) × Arranged n (now path) ⌝ }
+    ensures { λ r. ⌜ r ≡ walkCode (turnAt (now (edges .entry)) (now (unknowns .entry)) (now (path .entry))) (fromRow 2 (n - 2)) ⌝ }
+{
+    if n < 3 {
+        return 0;
+    }
+    let code = pairs_walk(edges, unknowns, path, n, 2);
+    if code == 0 {
+        return later_rows(edges, unknowns, path, n);
+    }
+    code
 }

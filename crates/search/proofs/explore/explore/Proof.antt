@@ -145,7 +145,7 @@ loop-again-3 : tie.Need-loop-again-3 Inv-loop μ-loop
 loop-again-3 c = search goes-deeper
 
 rows-walk-requires : tie.Need-rows-walk-requires Inv-loop μ-loop
-rows-walk-requires c κs = (search needs, search needs, search longer-arranged)
+rows-walk-requires c κs = (search needs, search longer-arranged)
 
 ended-requires-4 : tie.Need-ended-requires-4 Inv-loop μ-loop
 ended-requires-4 c κs = search needs
