@@ -19,10 +19,10 @@ use Rattle.graph.specs.WellFormed.{wellFormed}
 use Rattle.graph.proofs.Formed.{formed}
 use Rattle.search.specs.declared.explore.Explored.{Explored}
 use Rattle.search.specs.Judging.{judged, found}
-use Rattle.search.specs.Code.{Within, Stopped, turnAt, walkCode, graphIn, foundBy}
+use Rattle.search.specs.Code.{Arranged, Stopped, turnAt, walkCode, graphIn, foundBy}
 use Rattle.search.proofs.Searching.{Searching, path-vertex, over, climbed, used-within}
 use Rattle.search.proofs.StopLaws.{ByStop}
-use Rattle.search.proofs.Trying.{place-fits, weight-within, weight-used, cut-short, next-within, next-kept, by-its-stop, won-found, lost-stays, full-stays, deepened}
+use Rattle.search.proofs.Trying.{place-fits, weight-within, weight-used, cut-short, next-arranged, next-kept, by-its-stop, won-found, lost-stays, full-stays, deepened}
 
 pub order-bounded : (n : ℕ) (e u : List ℕ) (s : ℕ) → wellFormed (graphIn n e u s) ≡ true → n ≤ 32
 order-bounded n e u s h = formed (graphIn n e u s) h .order-high
@@ -93,10 +93,8 @@ module _ (n : ℕ) (e u : List ℕ) (b : ℕ) (budget : ℕ) (blocks path₀ pat
         next : set path depth v ≡ set path depth (t + 1)
         next = ap (set path depth) p
 
-        pub longer-within : n ≤ depth + 1 → Within n (set path depth v)
-        longer-within h =
-            let all : depth + 1 ≡ n = omega (arith, s .shallow) in
-            rw all at (next-within (graphIn n e u b) budget blocks path₀ path untried stops left used depth steps s some t q (set path depth v) next)
+        pub longer-arranged : n ≤ depth + 1 → Arranged n (set path depth v)
+        longer-arranged = next-arranged (graphIn n e u b) budget blocks path₀ path untried stops left used depth steps s some t q (set path depth v) next
 
         pub longer-kept : drop n (set path depth v) ≡ drop n path₀
         longer-kept = next-kept (graphIn n e u b) budget blocks path₀ path untried stops left used depth steps s some t q (set path depth v) next

@@ -77,12 +77,19 @@ vertex-low k p i v w e l h = rw e (w .low i l h)
 pub vertex-high : (k : ℕ) (p : List ℕ) (i v : ℕ) → Within k p → v ≡ at p i → 1 ≤ i → i ≤ k → v ≤ 32
 vertex-high k p i v w e l h = rw e (w .high i l h)
 
+-- and at a place that has one after it
+pub earlier-low : (k : ℕ) (p : List ℕ) (i v : ℕ) → Within k p → v ≡ at p i → 1 ≤ i → i < k → 1 ≤ v
+earlier-low k p i v w e l h = vertex-low k p i v w e l (omega arith)
+
+pub earlier-high : (k : ℕ) (p : List ℕ) (i v : ℕ) → Within k p → v ≡ at p i → 1 ≤ i → i < k → v ≤ 32
+earlier-high k p i v w e l h = vertex-high k p i v w e l (omega arith)
+
 module _ (t : Pair → ℕ) where
   code-first : (k : Pair) (ks : List Pair) → (t k ≡ 0 → ⊥) → walkCode t (k ∷ ks) ≡ t k
   unfolding walkCode pick
   code-first k ks h = rw (ne-eqb (t k) 0 h)
 
-  code-rest : (k : Pair) (ks : List Pair) → t k ≡ 0 → walkCode t (k ∷ ks) ≡ walkCode t ks
+  pub code-rest : (k : Pair) (ks : List Pair) → t k ≡ 0 → walkCode t (k ∷ ks) ≡ walkCode t ks
   unfolding walkCode pick
   code-rest k ks h = rw (eq-eqb (t k) 0 h)
 
@@ -144,3 +151,15 @@ module _ (t : Pair → ℕ) where
     pub rows-over : n ≤ i → 0 ≡ whole
     unfolding fromRow walkCode
     rows-over h = let s : n - i ≡ 0 = omega arith in rw s at left
+
+  -- the second row, and the rows after it
+
+  pub second-none : (n : ℕ) → n < 3 → 0 ≡ walkCode t (fromRow 2 (n - 2))
+  second-none n h = rows-over n 2 (walkCode t (fromRow 2 (n - 2))) refl (omega arith)
+
+  module _ (n c : ℕ) (h : 3 ≤ n) (e : c ≡ walkCode t (alongRow 2 3 (n + 1 - 3))) where
+    pub second-ends : (c ≡ 0 → ⊥) → c ≡ walkCode t (fromRow 2 (n - 2))
+    second-ends z = rows-end n 2 (walkCode t (fromRow 2 (n - 2))) refl c (omega arith) e z
+
+    pub second-goes-on : c ≡ 0 → (r : ℕ) → r ≡ walkCode t (fromRow 3 (n - 3)) → r ≡ walkCode t (fromRow 2 (n - 2))
+    second-goes-on z r q = q ∙ rows-go-on n 2 (walkCode t (fromRow 2 (n - 2))) refl c (omega arith) e z

@@ -1,6 +1,7 @@
 pub mod CodeTurns
 pub mod TurnCodes
 pub mod CodeStops
+pub mod AlikeRows
 pub mod StopLaws
 pub mod CodeClause
 pub mod Writing

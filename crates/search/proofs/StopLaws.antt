@@ -15,8 +15,6 @@ use Rattle.laws.specs.Bit.{bit}
 use Rattle.laws.specs.BitLaws.{bit-of-zero, bit-of-power, bit-of-power-other}
 use Rattle.laws.specs.Compared.{by-same}
 use Rattle.laws.specs.Masks.{bit-of-without}
-use Rattle.laws.specs.UpTo.{wordUpTo}
-use Rattle.laws.specs.UpToLaws.{word-bit}
 use Rattle.beginnings.specs.Search
 use Rattle.graph.specs.declared.Graph.{Graph}
 use Rattle.graph.specs.Graph.{row}
@@ -26,16 +24,10 @@ use Rattle.graph.specs.Pairs.{Pair, pair, fromRow}
 use Rattle.search.specs.Judging.{samePair, pairOfTwo, judged}
 use Rattle.search.specs.Code.{allMarks, marksOf, turnBy, turnAt, walkCode, ownMask, stopsAt, StopsFor}
 use Rattle.search.proofs.Arrangements.{two-are}
+use Rattle.search.proofs.AlikeRows.{all-bits}
 use Rattle.search.proofs.LastJudged.{judgementCode, code-won, code-open, code-lost, code-not-won, at-last, hereTurn, first-open, short-code, full-code}
 
 -- ---- a bit of the stops
-
-all-bits : (k : ℕ) → k < 32 → bit allMarks k ≡ 1
-unfolding wordUpTo
-all-bits k h =
-    let place : suc k - 1 ≡ k = omega arith in
-    let whole : wordUpTo (λ _. 1) 32 ≡ allMarks = refl in
-    rw (whole, place) at (word-bit (λ _. 1) 32 (suc k) (λ _ _ _. omega arith) (omega arith) (omega arith))
 
 module _ (u k v : ℕ) (h : 1 < k) (l : 1 ≤ v) where
   OwnTold : Type 0

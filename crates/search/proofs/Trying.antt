@@ -8,7 +8,7 @@ use mathlib.Core.List.{List, [], _∷_, _++_, List·Memᴰ, List·Memᴰ·head, 
 use lib.Bits.{bitAnd}
 use lib.Count.{trailingZeros}
 use lib.ListN.{length, getD, set, take, drop, length-set}
-use lib.Seq.{getD-set-same, getD-set-other, take-suc-set, take-set-le, drop-set-lt}
+use lib.Seq.{getD-set-same, getD-set-other, take-suc-set, take-set-le, drop-set-lt, getD-take}
 use Rattle.laws.specs.Bit.{bit}
 use Rattle.laws.specs.Compared.{by-same}
 use Rattle.laws.specs.Masks.{members, not-empty, lowest-below, lowest-within, lowest-first, rest-below}
@@ -17,7 +17,7 @@ use Rattle.beginnings.specs.Search.{cut, first, tryAll}
 use Rattle.beginnings.specs.Search
 use Rattle.beginnings.specs.Remaining.{remaining}
 use Rattle.beginnings.proofs.Children.{Child, child-of-mem}
-use Rattle.beginnings.proofs.Follows.{Follows, length-more, follows-append}
+use Rattle.beginnings.proofs.Follows.{Follows, length-more, follows-append, beginning-of}
 use Rattle.beginnings.proofs.Loop.{loop-cut, loop-won, loop-lost, loop-full, loop-deeper}
 use Rattle.graph.specs.declared.Graph.{Graph}
 use Rattle.graph.specs.Graph.{blockOf, row}
@@ -25,7 +25,7 @@ use Rattle.graph.specs.Arrangement.{at}
 use Rattle.graph.specs.Pairs.{fromRow}
 use Rattle.search.specs.Judging.{judged, found}
 use Rattle.search.specs.Masks.{usedMask, blockMask}
-use Rattle.search.specs.Code.{Within, turnAt, walkCode, StopsFor, Stopped}
+use Rattle.search.specs.Code.{Within, Arranged, turnAt, walkCode, StopsFor, Stopped}
 use Rattle.search.proofs.MaskLaws.{used-down, used-below, mask-children, mask-fits}
 use Rattle.search.proofs.Searching.{Searching, untriedAbove, above-more, above-stored, block-at, depth-fits, path-length, path-vertex, by-deepest}
 use Rattle.search.proofs.StopLaws.{ByStop, by-stop}
@@ -88,6 +88,9 @@ module _ (g : Graph) (budget : ℕ) (blocks path₀ path untried stops : List �
   rest-small : left - 2 ^ t < 2 ^ n
   rest-small = rest-below left n t (left - 2 ^ t) refl (s .left-below)
 
+  longer-length : length longer ≡ suc depth
+  longer-length = length-more here (suc t) ∙ ap suc long
+
   longer-follows : Follows n block [] longer
   longer-follows = follows-append n block [] here (suc t ∷ []) (s .follows) (child, tt)
 
@@ -125,7 +128,7 @@ module _ (g : Graph) (budget : ℕ) (blocks path₀ path untried stops : List �
     next-before : (i : ℕ) → i < depth → getD next i 0 ≡ getD path i 0
     next-before i h = rw next-is (getD-set-other path depth i (suc t) 0 (omega arith))
 
-    pub next-within : Within (depth + 1) next
+    next-within : Within (depth + 1) next
     next-within = record { low = λ i a b. in-range i a b .0; high = λ i a b. in-range i a b .1 }
       where
         in-range : (i : ℕ) → 1 ≤ i → i ≤ depth + 1 → (1 ≤ at next i) × (at next i ≤ 32)
@@ -136,6 +139,18 @@ module _ (g : Graph) (budget : ℕ) (blocks path₀ path untried stops : List �
             let v : at next i ≡ getD path (i - 1) 0 = next-before (i - 1) (omega arith) in
             let r = path-vertex g budget blocks path₀ path untried stops left used depth steps s (i - 1) (omega arith) in
             (omega (arith, v, r .0), omega (arith, v, r .1, high)))
+
+    -- where it fills every place, it holds different vertices of 1..n
+    pub next-arranged : n ≤ depth + 1 → Arranged n next
+    next-arranged h =
+        let all : depth + 1 ≡ n = omega (arith, s .shallow) in
+        let b = beginning-of n block longer (omega (arith, longer-length)) (omega (arith, longer-length)) longer-follows in
+        let same : (i : ℕ) → 1 ≤ i → i ≤ n → at longer i ≡ at next i = λ i l k. ap (λ (x : List ℕ). getD x (i - 1) 0) (sym next-path) ∙ getD-take (suc depth) next (i - 1) 0 (omega arith) in
+        record {
+          within = rw all at next-within;
+          below = λ i l k. rw (same i l k) at (b .high i l (omega (arith, longer-length)));
+          once = λ i j l k m e. b .once i j l k (omega (arith, longer-length)) (same i (omega arith) m ∙ e ∙ sym (same j l (omega arith)));
+        }
 
     -- the stops are still those of the first vertex
     still-stopping : 1 ≤ depth → StopsFor (g .edges) (g .unknowns) (at next 1) n stops
@@ -215,9 +230,6 @@ module _ (g : Graph) (budget : ℕ) (blocks path₀ path untried stops : List �
       module _ (l : suc depth < n) (h : judged g longer ≡ Search.«open») (blk fresh : ℕ) (k : blk ≡ getD blocks (suc depth) 0) (f : fresh ≡ blk - bitAnd blk (used + 2 ^ t)) where
         its-block : blk ≡ blockMask block n (suc (suc depth))
         its-block = k ∙ block-at g budget blocks path₀ (s .blocks-are) (suc depth) l
-
-        longer-length : length longer ≡ suc depth
-        longer-length = length-more here (suc t) ∙ ap suc long
 
         its-children : members fresh n ≡ children n block longer
         its-children =

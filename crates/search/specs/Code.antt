@@ -1,5 +1,5 @@
 -- What the code computes on rows and paths, by numbers: 0 goes on or open, 1 loses or lost, 2 wins or won.
-use Prim.Native.Nat.{ℕ, _-_, _^_, _≤_}
+use Prim.Native.Nat.{ℕ, _-_, _^_, _≤_, _<_}
 use mathlib.Core.Path.{_≡_}
 use mathlib.Core.Logic.{_≢_}
 use mathlib.Core.List.{List, [], _∷_}
@@ -82,6 +82,20 @@ pub record Stopped (edges unknowns : List ℕ) (n depth u : ℕ) (before after :
 pub record Within (k : ℕ) (p : List ℕ) : Type 0 where
   pub low : (i : ℕ) → 1 ≤ i → i ≤ k → 1 ≤ at p i
   pub high : (i : ℕ) → 1 ≤ i → i ≤ k → at p i ≤ 32
+
+-- the first n places of p hold different vertices of 1..n
+pub record Arranged (n : ℕ) (p : List ℕ) : Type 0 where
+  pub within : Within n p
+  pub below : (i : ℕ) → 1 ≤ i → i ≤ n → at p i ≤ n
+  pub once : (i j : ℕ) → 1 ≤ j → j < i → i ≤ n → at p i ≢ at p j
+
+-- the mask has the vertices of the places after i
+pub record Later (n i : ℕ) (p : List ℕ) (mask : ℕ) : Type 0 where
+  pub has : (j : ℕ) → i < j → j ≤ n → bit mask (at p j - 1) ≡ 1
+
+-- each edge bit of a place after i is as each mark of a vertex in the mask
+pub record Alike (n i ones marks mask : ℕ) : Type 0 where
+  pub same : (j k : ℕ) → i < j → j ≤ n → bit mask k ≡ 1 → bit ones (j - 1) ≡ bit marks k
 
 -- the graph with these rows
 abbrev pub graphIn : ℕ → List ℕ → List ℕ → ℕ → Graph

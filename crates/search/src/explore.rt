@@ -93,7 +93,7 @@ pub fn explore<'a, 'b>(
                 used += weight;
                 depth += 1;
                 left = without(blocks[depth], used);
-            } else if rows_walk(edges, unknowns, path, n, 2) == 2 {
+            } else if rows_walk(edges, unknowns, path, n) == 2 {
                 return ended(1, steps, k);
             }
         }

@@ -1,11 +1,15 @@
 // The walk of a path over pairs. An answer is 0 where it goes on, 1 where it loses, 2 where it wins.
 ghost use mathlib.Core.Path.{_≡_};
-ghost use Prim.Native.Nat.{_+_, _-_, _≤_};
+ghost use mathlib.Core.Bool.{true};
+ghost use Prim.Native.Nat.{_+_, _-_, _^_, _≤_, _<_};
+ghost use lib.Bits.{bitAnd};
 ghost use Rattle.graph.specs.Graph.{row};
 ghost use Rattle.graph.specs.Arrangement.{at};
 ghost use Rattle.graph.specs.Pairs.{pair, alongRow, fromRow};
 ghost use Rattle.search.specs.Judging.{samePair, pairOfTwo};
-ghost use Rattle.search.specs.Code.{marksOf, turnBy, turnAt, walkCode, Within};
+ghost use Rattle.search.specs.Code.{marksOf, turnBy, turnAt, walkCode, Within, Arranged, Later, Alike};
+use crate::masks::power;
+use crate::masks::without;
 use graph::inner::vertex_at;
 
 // The edges of row i.
@@ -78,22 +82,37 @@ pub fn pair_turn<'a>(
     turn_by(ones, marks, i, j, u, v)
 }
 
-// The walk along row i from (i, j) to (i, n).
-fn row_walk<'a>(
+// Is row i alike all along? So it is where it has no edge after place i and no later vertex a mark, or each has one.
+fn is_alike(n: u32, i: u32, ones: u32, marks: u32, later: u32) -> bool
+    requires { ⌜ (1 ≤ i) × (i < n) × (n ≤ 32) ⌝ }
+    ensures { λ r. ⌜ (r ≡ true → Alike n i ones marks later) ⌝ }
+{
+    let after = ones >> i;
+    let marked = marks & later;
+    if after == 0 {
+        return marked == 0;
+    }
+    if marked == later {
+        return after == power(n - i) - 1;
+    }
+    false
+}
+
+// The walk along the pairs of row i.
+fn pairs_walk<'a>(
     edges: &'a [u32; 32],
     unknowns: &'a [u32; 32],
     path: &'a [u8; 32],
     n: u32,
     i: u32,
-    from: u32,
 ) -> u32
-    requires { ⌜ (n ≤ 32) × (1 ≤ i) × (i ≤ n) × (1 ≤ from) × (from ≤ n + 1) × Within n (now path) ⌝ }
-    ensures { λ r. ⌜ r ≡ walkCode (turnAt (now (edges .entry)) (now (unknowns .entry)) (now (path .entry))) (alongRow i from (n + 1 - from)) ⌝ }
+    requires { ⌜ (n ≤ 32) × (1 ≤ i) × (i < n) × Within n (now path) ⌝ }
+    ensures { λ r. ⌜ r ≡ walkCode (turnAt (now (edges .entry)) (now (unknowns .entry)) (now (path .entry))) (alongRow i (i + 1) (n + 1 - (i + 1))) ⌝ }
 {
     let u = vertex_at(path, i);
     let ones = edges_of(edges, i);
     let marks = marks_of(edges, unknowns, u);
-    let mut j = from;
+    let mut j = i + 1;
     while j <= n {
         let v = vertex_at(path, j);
         let code = turn_by(ones, marks, i, j, u, v);
@@ -106,20 +125,46 @@ fn row_walk<'a>(
     0
 }
 
-// The walk along the rows from row i on.
-pub fn rows_walk<'a>(
+// The same for a row, where the mask has the later vertices.
+fn row_walk<'a>(
     edges: &'a [u32; 32],
     unknowns: &'a [u32; 32],
     path: &'a [u8; 32],
     n: u32,
-    from: u32,
+    i: u32,
+    later: u32,
 ) -> u32
-    requires { ⌜ (n ≤ 32) × (1 ≤ from) × Within n (now path) ⌝ }
-    ensures { λ r. ⌜ r ≡ walkCode (turnAt (now (edges .entry)) (now (unknowns .entry)) (now (path .entry))) (fromRow from (n - from)) ⌝ }
+    requires { ⌜ (n ≤ 32) × (1 ≤ i) × (i < n) × Within n (now path) × Later n i (now path) later ⌝ }
+    ensures { λ r. ⌜ r ≡ walkCode (turnAt (now (edges .entry)) (now (unknowns .entry)) (now (path .entry))) (alongRow i (i + 1) (n + 1 - (i + 1))) ⌝ }
 {
-    let mut i = from;
+    let u = vertex_at(path, i);
+    let ones = edges_of(edges, i);
+    let marks = marks_of(edges, unknowns, u);
+    if is_alike(n, i, ones, marks, later) {
+        return 0;
+    }
+    pairs_walk(edges, unknowns, path, n, i)
+}
+
+// The mask without the vertex at place i.
+fn without_place(mask: u32, path: &[u8; 32], i: u32) -> u32
+    requires { ⌜ (1 ≤ i) × (i ≤ 32) × (1 ≤ at (now path) i) × (at (now path) i ≤ 32) ⌝ }
+    ensures { λ r. ⌜ r ≡ mask - bitAnd mask (2 ^ (at (now (path .entry)) i - 1)) ⌝ }
+{
+    without(mask, power(vertex_at(path, i) - 1))
+}
+
+// The walk along the rows after the second.
+fn later_rows<'a>(edges: &'a [u32; 32], unknowns: &'a [u32; 32], path: &'a [u8; 32], n: u32) -> u32
+    requires { ⌜ (3 ≤ n) × (n ≤ 32) × Arranged n (now path) ⌝ }
+    ensures { λ r. ⌜ r ≡ walkCode (turnAt (now (edges .entry)) (now (unknowns .entry)) (now (path .entry))) (fromRow 3 (n - 3)) ⌝ }
+{
+    let all = without_place(0xFFFF_FFFF >> (32 - n), path, 1);
+    let mut later = without_place(all, path, 2);
+    let mut i = 3;
     while i < n {
-        let code = row_walk(edges, unknowns, path, n, i, i + 1);
+        later = without_place(later, path, i);
+        let code = row_walk(edges, unknowns, path, n, i, later);
         if code == 0 {
             i += 1;
         } else {
@@ -127,4 +172,24 @@ pub fn rows_walk<'a>(
         }
     }
     0
+}
+
+// The walk along the rows after the first. Most walks end in the second, which is walked pair by pair.
+pub fn rows_walk<'a>(
+    edges: &'a [u32; 32],
+    unknowns: &'a [u32; 32],
+    path: &'a [u8; 32],
+    n: u32,
+) -> u32
+    requires { ⌜ (n ≤ 32) × Arranged n (now path) ⌝ }
+    ensures { λ r. ⌜ r ≡ walkCode (turnAt (now (edges .entry)) (now (unknowns .entry)) (now (path .entry))) (fromRow 2 (n - 2)) ⌝ }
+{
+    if n < 3 {
+        return 0;
+    }
+    let code = pairs_walk(edges, unknowns, path, n, 2);
+    if code == 0 {
+        return later_rows(edges, unknowns, path, n);
+    }
+    code
 }

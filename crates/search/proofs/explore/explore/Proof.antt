@@ -1,5 +1,5 @@
 use borrow.Author.Needs.{needs}
-use Rattle.search.proofs.CodeSearch.{order-bounded, path-kept, ends-none, last-low, last-high, last-used, climbs, ends-cut, low-place, mask-holds, used-fits, longer-within, longer-kept, ends-at-stop, past-stop, ends-full, past-full, goes-deeper}
+use Rattle.search.proofs.CodeSearch.{order-bounded, path-kept, ends-none, last-low, last-high, last-used, climbs, ends-cut, low-place, mask-holds, used-fits, longer-arranged, longer-kept, ends-at-stop, past-stop, ends-full, past-full, goes-deeper}
 use Prim.Native.Nat.{_+_, _-_, _*_}
 use Rattle.graph.proofs.Formed.{formed}
 use Rattle.search.specs.Code.{graphIn}
@@ -145,7 +145,7 @@ loop-again-3 : tie.Need-loop-again-3 Inv-loop μ-loop
 loop-again-3 c = search goes-deeper
 
 rows-walk-requires : tie.Need-rows-walk-requires Inv-loop μ-loop
-rows-walk-requires c κs = (search needs, search needs, search longer-within)
+rows-walk-requires c κs = (search needs, search longer-arranged)
 
 ended-requires-4 : tie.Need-ended-requires-4 Inv-loop μ-loop
 ended-requires-4 c κs = search needs
