@@ -14,3 +14,8 @@ pub mod Relabelling
 pub mod Composing
 pub mod CountLaws
 pub mod Blocks
+pub mod CodeStages
+pub mod StageLaws
+pub mod Transposing
+pub mod CodeStanding
+pub mod Standing

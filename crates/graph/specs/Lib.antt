@@ -4,3 +4,5 @@ pub mod Arrangement
 pub mod Pairs
 pub mod Answers
 pub mod Order
+pub mod Stage
+pub mod Standing

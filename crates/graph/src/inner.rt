@@ -10,7 +10,9 @@ ghost use Rattle.laws.specs.UpTo.{allUpTo, sumUpTo};
 ghost use Rattle.laws.specs.Test.{pick};
 ghost use Rattle.laws.specs.Bit.{bit, withBit};
 ghost use Rattle.graph.specs.Graph.{entryIn, withMark, onesAt, blockOf, placed};
-ghost use Rattle.graph.specs.WellFormed.{pairFits, rowFits, startsFit};
+ghost use Rattle.graph.specs.WellFormed.{rowFits, startsFit};
+ghost use Rattle.graph.specs.Stage.{lower, upper, staged, transposed};
+ghost use Rattle.graph.specs.Standing.{stands, rowStands};
 ghost use Rattle.graph.specs.Arrangement.{at, differs, isNew, placeFits, isReordering, staysInBlock, isPermitted, placeOf, movedRow, through, composed, inverse};
 
 // A word as a wider one.
@@ -50,35 +52,6 @@ pub fn entry_in<'a>(edges: &'a [u32; 32], unknowns: &'a [u32; 32], i: u32, j: u3
 
 // ---- well-formedness
 
-// Do the entries at (i, j) and (j, i) agree, and is neither both known and unknown?
-fn pair_fits<'a>(edges: &'a [u32; 32], unknowns: &'a [u32; 32], i: u32, j: u32) -> bool
-    requires { ⌜ (1 ≤ i) × (i ≤ 32) × (1 ≤ j) × (j ≤ 32) ⌝ }
-    ensures { λ r. ⌜ r ≡ pairFits (now (edges .entry)) (now (unknowns .entry)) i j ⌝ }
-{
-    let here = entry_in(edges, unknowns, i, j);
-    let there = entry_in(edges, unknowns, j, i);
-    if here == there {
-        return here <= 2;
-    }
-    false
-}
-
-// Does row i fit the columns before it?
-fn columns_fit<'a>(edges: &'a [u32; 32], unknowns: &'a [u32; 32], i: u32) -> bool
-    requires { ⌜ (1 ≤ i) × (i ≤ 32) ⌝ }
-    ensures { λ r. ⌜ r ≡ allUpTo (pairFits (now (edges .entry)) (now (unknowns .entry)) i) (i - 1) ⌝ }
-{
-    let mut j = 0;
-    while j < i - 1 {
-        if pair_fits(edges, unknowns, i, j + 1) {
-            j += 1;
-        } else {
-            return false;
-        }
-    }
-    true
-}
-
 // What row i must be below: 2 to the order, and 1 past the order.
 fn row_limit(order: u32, i: u32) -> u64
     requires { ⌜ order ≤ 32 ⌝ }
@@ -90,23 +63,114 @@ fn row_limit(order: u32, i: u32) -> u64
     1
 }
 
-// Has row i nothing past the order and nothing on the diagonal, and does it fit the columns before it?
-fn row_fits<'a>(order: u32, edges: &'a [u32; 32], unknowns: &'a [u32; 32], i: u32) -> bool
+// The halves of a and of b that m marks, side by side.
+fn lower_of(a: u32, b: u32, s: u32, m: u32) -> u32
+    requires { ⌜ s < 32 ⌝ }
+    ensures { λ r. ⌜ r ≡ lower s m a b ⌝ }
+{
+    (a & m) | ((b & m) << s)
+}
+
+// The halves of a and of b that c marks, side by side.
+fn upper_of(a: u32, b: u32, s: u32, m: u32, c: u32) -> u32
+    requires { ⌜ s < 32 ⌝ }
+    ensures { λ r. ⌜ r ≡ upper s m c a b ⌝ }
+{
+    ((a >> s) & m) | (b & c)
+}
+
+// One stage: a bit of the column changes places with the highest bit of the row, and the row's bits move up.
+fn stage(rows: &[u32; 32], s: u32, m: u32, c: u32) -> [u32; 32]
+    requires { ⌜ s < 32 ⌝ }
+    ensures { λ r. ⌜ r ≡ placed (staged s m c (now (rows .entry))) 32 ⌝ }
+{
+    let mut out = [0u32; 32];
+    let mut i = 0usize;
+    while i < 16 {
+        let a = rows[i];
+        let b = rows[i + 16];
+        out[2 * i] = lower_of(a, b, s, m);
+        out[2 * i + 1] = upper_of(a, b, s, m, c);
+        i += 1;
+    }
+    out
+}
+
+// The rows transposed.
+fn transposed_of(rows: &[u32; 32]) -> [u32; 32]
+    ensures { λ r. ⌜ r ≡ transposed (now (rows .entry)) ⌝ }
+{
+    let a = stage(rows, 16, 0x0000ffff, 0xffff0000);
+    let b = stage(&a, 8, 0x00ff00ff, 0xff00ff00);
+    let c = stage(&b, 4, 0x0f0f0f0f, 0xf0f0f0f0);
+    let d = stage(&c, 2, 0x33333333, 0xcccccccc);
+    stage(&d, 1, 0x55555555, 0xaaaaaaaa)
+}
+
+// Are the row e of edges and the row u of unknowns equal to their columns, apart, without bit k, and below the limit?
+fn words_stand(e: u32, u: u32, columns: u32, others: u32, k: u32, limit: u64) -> bool
+    requires { ⌜ k < 32 ⌝ }
+    ensures { λ r. ⌜ r ≡ stands e u columns others k limit ⌝ }
+{
+    if e != columns {
+        return false;
+    }
+    if u != others {
+        return false;
+    }
+    if (e & u) != 0 {
+        return false;
+    }
+    if ((e | u) >> k) % 2 != 0 {
+        return false;
+    }
+    wide(e | u) < limit
+}
+
+// Do the rows of vertex i stand, beside the transposed rows?
+fn row_stands<'a>(
+    order: u32,
+    edges: &'a [u32; 32],
+    unknowns: &'a [u32; 32],
+    columns: &'a [u32; 32],
+    others: &'a [u32; 32],
+    i: u32,
+) -> bool
     requires { ⌜ (order ≤ 32) × (1 ≤ i) × (i ≤ 32) ⌝ }
-    ensures { λ r. ⌜ r ≡ rowFits order (now (edges .entry)) (now (unknowns .entry)) i ⌝ }
+    ensures { λ r. ⌜ r ≡ rowStands order (now (edges .entry)) (now (unknowns .entry)) (now (columns .entry)) (now (others .entry)) i ⌝ }
 {
     let at = (i - 1) as usize;
     let limit = row_limit(order, i);
-    if limit <= wide(edges[at]) {
-        return false;
+    words_stand(
+        edges[at],
+        unknowns[at],
+        columns[at],
+        others[at],
+        i - 1,
+        limit,
+    )
+}
+
+// Do all rows stand?
+fn rows_stand<'a>(
+    order: u32,
+    edges: &'a [u32; 32],
+    unknowns: &'a [u32; 32],
+    columns: &'a [u32; 32],
+    others: &'a [u32; 32],
+) -> bool
+    requires { ⌜ order ≤ 32 ⌝ }
+    ensures { λ r. ⌜ r ≡ allUpTo (rowStands order (now (edges .entry)) (now (unknowns .entry)) (now (columns .entry)) (now (others .entry))) 32 ⌝ }
+{
+    let mut i = 0;
+    while i < 32 {
+        if row_stands(order, edges, unknowns, columns, others, i + 1) {
+            i += 1;
+        } else {
+            return false;
+        }
     }
-    if limit <= wide(unknowns[at]) {
-        return false;
-    }
-    if entry_in(edges, unknowns, i, i) == 0 {
-        return columns_fit(edges, unknowns, i);
-    }
-    false
+    true
 }
 
 // Does every row fit?
@@ -114,15 +178,9 @@ pub fn rows_fit<'a>(order: u32, edges: &'a [u32; 32], unknowns: &'a [u32; 32]) -
     requires { ⌜ order ≤ 32 ⌝ }
     ensures { λ r. ⌜ r ≡ allUpTo (rowFits order (now (edges .entry)) (now (unknowns .entry))) 32 ⌝ }
 {
-    let mut i = 0;
-    while i < 32 {
-        if row_fits(order, edges, unknowns, i + 1) {
-            i += 1;
-        } else {
-            return false;
-        }
-    }
-    true
+    let columns = transposed_of(edges);
+    let others = transposed_of(unknowns);
+    rows_stand(order, edges, unknowns, &columns, &others)
 }
 
 // Does vertex 1 start a block, and lies no start past the order?

@@ -15,3 +15,6 @@ pub mod ReadWritten
 pub mod Refused
 pub mod TakenLaws
 pub mod LentReader
+pub mod CodePen
+pub mod Reached
+pub mod PutLaws

@@ -4,3 +4,5 @@ pub mod Writing
 pub mod Answers
 pub mod Marks
 pub mod Reader
+pub mod Pushed
+pub mod Reached

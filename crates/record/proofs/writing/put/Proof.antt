@@ -1,60 +1,38 @@
--- After k turns the buffer has the first k bytes of the record, and then what it had.
-use Prim.Native.Nat.{_-_, _≤_}
-use mathlib.Core.List.{_++_}
-use mathlib.Core.Path.{_≡_}
-use lib.ListN.{length, drop}
 use borrow.Author.Needs.{needs}
-use Rattle.laws.specs.UpTo.{listUpTo}
-use Rattle.record.specs.Writing.{recordByte}
-use Rattle.record.proofs.WriteLaws.{filled-starts, filled-turns, filled-done}
+use Rattle.record.proofs.Reached.{from-here}
+use Rattle.record.proofs.PutLaws.{order-room, order-begins, pad-room, pad-pushed}
 use Rattle.record.proofs.writing.put.Statement.{statement}
 use Rattle.record.proofs.writing.put.Tie as tie
 
-abbrev Inv-loop : tie.InvT-loop
-Inv-loop g out₀ size k₀ out k = (k ≤ size) × (out ≡ listUpTo (recordByte g) k ++ drop k out₀) × (length out ≡ length out₀)
+push-requires : tie.Need-push-requires
+push-requires c κs = search (order-room, needs)
 
-abbrev μ-loop : tie.MeasureT-loop
-μ-loop g out₀ size k₀ out k = size - k
+put-starts-requires : tie.Need-put-starts-requires
+put-starts-requires c κs = search (order-begins, needs)
 
-byte-count-requires : tie.Need-byte-count-requires Inv-loop μ-loop
-byte-count-requires c κs = search needs
+put-rows-requires : tie.Need-put-rows-requires
+put-rows-requires c κs = (search needs, search needs, from-here _ _ _ _ _ (c .before .before .before .put-starts .ensures))
 
-loop-holds : tie.Need-loop-holds Inv-loop μ-loop
-loop-holds c = search (filled-starts, needs)
+sub-push : tie.Need-sub-push
+sub-push c = search needs
 
-byte-of-requires : tie.Need-byte-of-requires Inv-loop μ-loop
-byte-of-requires c κs = search needs
+push-requires-2 : tie.Need-push-requires-2
+push-requires-2 c κs = (search needs, search needs, search needs, search needs, pad-room _ _ _ _ (c .before .before .before .before .put-rows .ensures))
 
-slice-write-out : tie.Need-slice-write-out Inv-loop μ-loop
-slice-write-out c = search needs
-
-add-k : tie.Need-add-k Inv-loop μ-loop
-add-k c = search needs
-
-loop-less : tie.Need-loop-less Inv-loop μ-loop
-loop-less c = search needs
-
-loop-again : tie.Need-loop-again Inv-loop μ-loop
-loop-again c = search (filled-turns, needs)
-
-same-length : tie.Need-same-length Inv-loop μ-loop
+same-length : tie.Need-same-length
 same-length c = search needs
 
-returns : tie.Need-returns Inv-loop μ-loop
-returns c = search (filled-done, needs)
+returns : tie.Need-returns
+returns c = search (pad-pushed, needs)
 
 pub put-spec : {M : Type 1} → statement M
 put-spec =
     tie.close
     (tie.spec
-    Inv-loop
-    μ-loop
-    byte-count-requires
-    loop-holds
-    byte-of-requires
-    slice-write-out
-    add-k
-    loop-less
-    loop-again
+    push-requires
+    put-starts-requires
+    put-rows-requires
+    sub-push
+    push-requires-2
     same-length
     returns)

@@ -4,30 +4,27 @@ use mathlib.Core.Path.{_≡_}
 use mathlib.Core.Bool.{true}
 use Rattle.laws.specs.UpTo.{allUpTo}
 use Rattle.laws.specs.Loops.{all-starts, all-turns, all-done, all-stops}
-use Rattle.graph.specs.WellFormed.{pairFits}
-use Rattle.graph.proofs.inner.columns_fit.Statement.{statement}
-use Rattle.graph.proofs.inner.columns_fit.Tie as tie
+use Rattle.graph.specs.Standing.{rowStands}
+use Rattle.graph.proofs.inner.rows_stand.Statement.{statement}
+use Rattle.graph.proofs.inner.rows_stand.Tie as tie
 
 abbrev Inv-loop : tie.InvT-loop
-Inv-loop edges unknowns i j₀ j = (j ≤ i - 1) × (allUpTo (pairFits edges unknowns i) j ≡ true)
+Inv-loop order edges unknowns columns others i₀ i = (i ≤ 32) × (allUpTo (rowStands order edges unknowns columns others) i ≡ true)
 
 abbrev μ-loop : tie.MeasureT-loop
-μ-loop edges unknowns i j₀ j = i - 1 - j
+μ-loop order edges unknowns columns others i₀ i = 32 - i
 
 loop-holds : tie.Need-loop-holds Inv-loop μ-loop
 loop-holds c = search (all-starts, needs)
 
-sub-loop : tie.Need-sub-loop Inv-loop μ-loop
-sub-loop c = search needs
+add-row-stands : tie.Need-add-row-stands Inv-loop μ-loop
+add-row-stands c = search needs
 
-add-pair-fits : tie.Need-add-pair-fits Inv-loop μ-loop
-add-pair-fits c = search needs
+row-stands-requires : tie.Need-row-stands-requires Inv-loop μ-loop
+row-stands-requires c κs = search needs
 
-pair-fits-requires : tie.Need-pair-fits-requires Inv-loop μ-loop
-pair-fits-requires c κs = search needs
-
-add-j : tie.Need-add-j Inv-loop μ-loop
-add-j c = search needs
+add-i : tie.Need-add-i Inv-loop μ-loop
+add-i c = search needs
 
 loop-less : tie.Need-loop-less Inv-loop μ-loop
 loop-less c = search needs
@@ -41,17 +38,16 @@ returns c = search (all-stops, needs)
 returns-2 : tie.Need-returns-2 Inv-loop μ-loop
 returns-2 c = search (all-done, needs)
 
-pub columns-fit-spec : {M : Type 1} → statement M
-columns-fit-spec =
+pub rows-stand-spec : {M : Type 1} → statement M
+rows-stand-spec =
     tie.close
     (tie.spec
     Inv-loop
     μ-loop
     loop-holds
-    sub-loop
-    add-pair-fits
-    pair-fits-requires
-    add-j
+    add-row-stands
+    row-stands-requires
+    add-i
     loop-less
     loop-again
     returns
