@@ -10,7 +10,7 @@ use borrow.Author.Tests.{eq-eqb, ne-eqb}
 use Rattle.laws.specs.TestLaws.{pick-true, pick-false}
 use Rattle.graph.specs.Graph.{placed}
 use Rattle.graph.proofs.CodePlaces.{placed-turns}
-use Rattle.graph.specs.Stage.{lower, upper, staged, transposed}
+use Rattle.graph.specs.Stage.{lower, upper, staged, transposed, inBothHalves}
 
 pub lower-is : (s m a b : ℕ) → bitOr (bitAnd a m) (bitAnd b m * 2 ^ s % 2 ^ 32) ≡ lower s m a b
 unfolding lower
@@ -53,3 +53,12 @@ pub transposed-is : (rows a b c d r : List ℕ) → a ≡ placed (staged 16 6553
     → r ≡ placed (staged 1 1431655765 2863311530 d) 32 → r ≡ transposed rows
 unfolding transposed
 transposed-is rows a b c d r e f g h k = rw (k, h, g, f, e)
+
+-- ---- both halves
+
+pub halves-turn : (rows columns out : List ℕ) (i : ℕ) → columns ≡ transposed rows → out ≡ placed (inBothHalves rows) i → i < 32
+    → set out i (bitOr (getD rows i 0) (getD columns i 0)) ≡ placed (inBothHalves rows) (i + 1)
+unfolding inBothHalves
+halves-turn rows columns out i is-columns is-out l =
+    let k : i + 1 - 1 ≡ i = omega arith in
+    placed-turns (inBothHalves rows) i (bitOr (getD rows i 0) (getD columns i 0)) 32 out is-out (rw (k, is-columns)) l (omega arith)

@@ -19,3 +19,4 @@ pub mod StageLaws
 pub mod Transposing
 pub mod CodeStanding
 pub mod Standing
+pub mod Halves

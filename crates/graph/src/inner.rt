@@ -11,7 +11,7 @@ ghost use Rattle.laws.specs.Test.{pick};
 ghost use Rattle.laws.specs.Bit.{bit, withBit};
 ghost use Rattle.graph.specs.Graph.{entryIn, withMark, onesAt, blockOf, placed};
 ghost use Rattle.graph.specs.WellFormed.{rowFits, startsFit};
-ghost use Rattle.graph.specs.Stage.{lower, upper, staged, transposed};
+ghost use Rattle.graph.specs.Stage.{lower, upper, staged, transposed, inBothHalves};
 ghost use Rattle.graph.specs.Standing.{stands, rowStands};
 ghost use Rattle.graph.specs.Arrangement.{at, differs, isNew, placeFits, isReordering, staysInBlock, isPermitted, placeOf, movedRow, through, composed, inverse};
 
@@ -105,6 +105,20 @@ fn transposed_of(rows: &[u32; 32]) -> [u32; 32]
     let c = stage(&b, 4, 0x0f0f0f0f, 0xf0f0f0f0);
     let d = stage(&c, 2, 0x33333333, 0xcccccccc);
     stage(&d, 1, 0x55555555, 0xaaaaaaaa)
+}
+
+// Rows that are given above the diagonal, in both halves.
+pub fn both_halves(rows: &[u32; 32]) -> [u32; 32]
+    ensures { λ r. ⌜ r ≡ placed (inBothHalves (now (rows .entry))) 32 ⌝ }
+{
+    let columns = transposed_of(rows);
+    let mut out = [0u32; 32];
+    let mut i = 0usize;
+    while i < 32 {
+        out[i] = rows[i] | columns[i];
+        i += 1;
+    }
+    out
 }
 
 // Are the row e of edges and the row u of unknowns equal to their columns, apart, without bit k, and below the limit?

@@ -1,7 +1,7 @@
 use borrow.Author.Needs.{needs}
 use Rattle.record.proofs.CodePen.{power-is, power-some}
-use Rattle.record.proofs.writing.power.Statement.{statement}
-use Rattle.record.proofs.writing.power.Tie as tie
+use Rattle.record.proofs.bits.power.Statement.{statement}
+use Rattle.record.proofs.bits.power.Tie as tie
 
 shl-result : tie.Need-shl-result
 shl-result c = search needs
