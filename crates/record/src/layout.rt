@@ -2,7 +2,7 @@
 ghost use mathlib.Core.Path.{_≡_};
 ghost use Prim.Native.Nat.{_+_, _*_, _≤_, _<_};
 ghost use Rattle.graph.specs.Pairs.{pairCount, number};
-ghost use Rattle.record.specs.Layout.{entryPlace, bitCount, byteCount};
+ghost use Rattle.record.specs.Layout.{cell, bitCount, byteCount};
 
 // The product of two small numbers.
 fn product(a: u32, b: u32) -> u32
@@ -47,7 +47,7 @@ pub(crate) fn number_of(order: u32, i: u32, j: u32) -> u32
 // The place of the first entry of row i.
 pub(crate) fn line_place(order: u32, i: u32) -> usize
     requires { ⌜ (1 ≤ i) × (i ≤ order) × (order ≤ 32) ⌝ }
-    ensures { λ r. ⌜ (r ≡ entryPlace order (number order i (i + 1))) × (r ≤ 10000) ⌝ }
+    ensures { λ r. ⌜ (r ≡ cell order i (i + 1)) × (r ≤ 10000) ⌝ }
 {
     (6 + (order - 1) + 2 * (product(i - 1, 2 * order - i) / 2)) as usize
 }

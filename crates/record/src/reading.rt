@@ -125,8 +125,9 @@ pub(crate) fn pad_of(bytes: &[u8], order: u32) -> u32
     requires { ⌜ (1 ≤ order) × (order ≤ 32) × (byteCount order ≤ length (now bytes)) ⌝ }
     ensures { λ r. ⌜ r ≡ padIn (bitOf (now (bytes .entry))) order ⌝ }
 {
-    let last = byte_count(order) - 1;
-    let left = 8 * byte_count(order) - bit_count(order);
+    let taken = byte_count(order);
+    let left = 8 * taken - bit_count(order);
+    let last = taken - 1;
     wide(bytes[last]) % power(left as u32)
 }
 

@@ -5,10 +5,10 @@ ghost use Prim.Native.Nat.{_+_, _-_, _*_, _≤_, _<_};
 ghost use lib.ListN.{length, drop};
 ghost use Rattle.graph.specs.Graph.{startAt};
 ghost use Rattle.laws.specs.Bit.{bit};
-ghost use Rattle.record.specs.Layout.{bitCount, byteCount};
+ghost use Rattle.record.specs.Layout.{bitCount, byteCount, begin, cell};
 ghost use Rattle.record.specs.Writing.{recordOf};
 ghost use Rattle.record.specs.Pushed.{IsPushed};
-ghost use Rattle.record.specs.Reached.{Reached, begin, cell};
+ghost use Rattle.record.specs.Reached.{Reached};
 use crate::bits::power;
 use graph::Graph;
 
