@@ -1,14 +1,14 @@
-//! The proved library against the oracle: equal answers, and no byte touched
-//! that the rules don't name.
+//! The C baseline, and the proved library where it is linked, against the
+//! oracle: equal answers, and no byte touched that the rules don't name.
 //!
-//! CALLS sets how many random calls are made; a million without it.
-#![cfg(feature = "library")]
+//! CALLS sets how many random calls are made of each; a million without it.
 
 use std::env;
 
+use oracle::LINKED;
 use oracle::graph::Graph;
 use oracle::judge::judge;
-use oracle::library::{judge_record, judge_rows, packed, packed_size, record_size, write_record};
+use oracle::linked::{packed, packed_size};
 use oracle::pairs::pair_count;
 use oracle::random::Random;
 use oracle::record::{read, record, size, write};
@@ -20,6 +20,7 @@ fn calls() -> u32 {
 }
 
 /// A lent buffer inside a larger one, whose contents are known before the call.
+#[derive(Clone)]
 struct Lent<T> {
     all: Vec<T>,
     before: Vec<T>,
@@ -53,7 +54,8 @@ impl<T: Copy + PartialEq + std::fmt::Debug> Lent<T> {
     }
 }
 
-/// The buffers of one call, and the oracle's answer to compare with.
+/// The budget and the buffers of one call.
+#[derive(Clone)]
 struct Call {
     budget: u32,
     literals: Lent<i32>,
@@ -87,42 +89,54 @@ impl Call {
     }
 
     /// Calls with rows.
-    fn rows(mut self, graph: &Graph) {
-        let arrangement = self.arrangement.lend().try_into().unwrap();
-        let answer = judge_rows(graph, self.budget, self.literals.lend(), arrangement);
+    fn rows(self, graph: &Graph) {
         let (judgement, literals) = self.expected(graph);
-        self.check(answer, &judgement, &literals);
+        for linked in LINKED {
+            let mut call = self.clone();
+            let arrangement = call.arrangement.lend().try_into().unwrap();
+            let answer = linked.judge_rows(graph, call.budget, call.literals.lend(), arrangement);
+            call.check(answer, &judgement, &literals);
+        }
     }
 
     /// Calls with the bytes of a record, or with bytes that are none.
-    fn bytes(mut self, random: &mut Random, bytes: &[u8]) {
-        let mut lent = Lent::holding(random, bytes, Random::byte);
-        let arrangement = self.arrangement.lend().try_into().unwrap();
-        let answer = judge_record(lent.lend(), self.budget, self.literals.lend(), arrangement);
-        lent.written(&[]);
+    fn bytes(self, random: &mut Random, bytes: &[u8]) {
         let reading = read(bytes);
         let (judgement, literals) = match reading.refusal {
             Some(refusal) => (Judgement::without(Verdict::Refused(refusal)), vec![]),
             None => self.expected(&reading.graph),
         };
-        self.check(answer, &judgement, &literals);
+        for linked in LINKED {
+            let mut call = self.clone();
+            let mut lent = Lent::holding(random, bytes, Random::byte);
+            let arrangement = call.arrangement.lend().try_into().unwrap();
+            let given = lent.lend();
+            let answer = linked.judge_record(given, call.budget, call.literals.lend(), arrangement);
+            lent.written(&[]);
+            call.check(answer, &judgement, &literals);
+        }
     }
 }
 
 /// Checks the size of the record at the start of the bytes.
 fn check_size(random: &mut Random, bytes: &[u8]) {
-    let mut lent = Lent::holding(random, bytes, Random::byte);
-    assert_eq!(record_size(lent.lend()), packed_size(size(bytes)));
-    lent.written(&[]);
+    let expected = packed_size(size(bytes));
+    for linked in LINKED {
+        let mut lent = Lent::holding(random, bytes, Random::byte);
+        assert_eq!(linked.record_size(lent.lend()), expected);
+        lent.written(&[]);
+    }
 }
 
 /// Checks what is written of a graph value into a buffer of this length.
 fn check_write(random: &mut Random, graph: &Graph, length: usize) {
-    let mut out = Lent::new(random, length, Random::byte);
     let mut expected = vec![0; length];
     let answer = write(graph, &mut expected);
-    assert_eq!(write_record(graph, out.lend()), packed_size(answer));
-    out.written(&expected[..answer.unwrap_or(0)]);
+    for linked in LINKED {
+        let mut out = Lent::new(random, length, Random::byte);
+        assert_eq!(linked.write_record(graph, out.lend()), packed_size(answer));
+        out.written(&expected[..answer.unwrap_or(0)]);
+    }
 }
 
 /// A record, sometimes with bytes after it, damaged or cut; or no record.
