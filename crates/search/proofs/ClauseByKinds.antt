@@ -241,17 +241,21 @@ module _ (n : ℕ) (e u : List ℕ) (starts : ℕ) (p : List ℕ) (row column : 
   pub column-high : column ≤ n
   column-high = at-between .to-high
 
-  module _ (fits : isPermitted n starts p ≡ true) (q : List ℕ) (inverts : q ≡ inverse n p) where
+  module _ (fits : isPermitted n starts p ≡ true) where
     reorders : Reordering n p
     reorders = permitted n starts p (formed (graphIn n e u starts) well .order-high) fits .reordering
 
+    pub path-tested : isReordering n p ≡ true
+    path-tested = reordering-tested n p reorders
+
+  module _ (fits : isPermitted n starts p ≡ true) (q : List ℕ) (inverts : q ≡ inverse n p) where
     pub inverse-tested : isReordering n q ≡ true
-    inverse-tested = rw inverts (reordering-tested n (inverse n p) (inverse-reordering n p reorders (formed (graphIn n e u starts) well .order-high)))
+    inverse-tested = rw inverts (reordering-tested n (inverse n p) (inverse-reordering n p (reorders fits) (formed (graphIn n e u starts) well .order-high)))
 
     module _ (s : ℕ) (standing : s ≡ number n row column) (old new : List ℤ) (r : ℕ)
         (done : AtStart (writtenAlong (kindAt e u q n s) 0 (pairs n)) old new r) where
       whole : writtenAlong (kindAt e u q n s) 0 (pairs n) ≡ clauseOf (graphIn n e u starts) p
-      whole = rw (inverts, standing) (kinds-clause (graphIn n e u starts) p (formed (graphIn n e u starts) well .order-high) reorders (pair row column) at-pair)
+      whole = rw (inverts, standing) (kinds-clause (graphIn n e u starts) p (formed (graphIn n e u starts) well .order-high) (reorders fits) (pair row column) at-pair)
 
       pub clause-counted : r ≡ length (clauseOf (graphIn n e u starts) p)
       clause-counted = done .counted ∙ ap length whole

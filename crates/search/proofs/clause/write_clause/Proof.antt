@@ -1,11 +1,11 @@
 use borrow.Author.Needs.{needs}
-use Rattle.search.proofs.ClauseByKinds.{row-low, row-before, column-high, order-low, inverse-tested, clause-counted, clause-written}
+use Rattle.search.proofs.ClauseByKinds.{row-low, row-before, column-high, order-low, path-tested, inverse-tested, clause-counted, clause-written}
 use Rattle.search.proofs.CodeSearch.{order-bounded}
 use Rattle.search.proofs.clause.write_clause.Statement.{statement}
 use Rattle.search.proofs.clause.write_clause.Tie as tie
 
 inverse-of-requires : tie.Need-inverse-of-requires
-inverse-of-requires c κs = search (order-bounded, needs)
+inverse-of-requires c κs = (search (order-bounded, needs), search (path-tested, needs))
 
 number-of-requires : tie.Need-number-of-requires
 number-of-requires c κs = (search (order-bounded, needs), search (row-low, needs), search (row-before, needs), search (column-high, needs))
