@@ -1,7 +1,6 @@
 -- What the code's tests come to, one law for each answer that it gives.
 use Prim.Native.Nat.{ℕ, _+_, _-_, _*_, _/_, _%_, _≤_, _<_, _^_}
 use native.Mathlib.Omega.{arith}
-use native.Mathlib.Numerals.{add-one}
 use mathlib.Core.Path.{_≡_, refl, sym, ap, ap₂, _∙_}
 use mathlib.Core.Bool.{Bool, true, false, not}
 use mathlib.Core.List.{List}
@@ -19,7 +18,7 @@ use Rattle.laws.specs.UpToLaws.{all-at}
 use Rattle.laws.specs.Loops.{all-done, all-stops, sum-turns}
 use Rattle.graph.specs.Graph.{row, entryIn, withMark, startAt, blockOf}
 use Rattle.graph.specs.WellFormed.{pairFits, rowFits, startsFit}
-use Rattle.graph.specs.Arrangement.{at, differs, isNew, placeFits, isReordering, staysInBlock, isPermitted, placeOf}
+use Rattle.graph.specs.Arrangement.{at, differs, isNew, placeFits, isReordering, staysInBlock, isPermitted}
 
 -- equal entries are left with the test that neither is both known and unknown
 pub pair-same : (e u : List ℕ) (i j h t : ℕ) → h ≡ entryIn e u i j → t ≡ entryIn e u j i → h ≡ t → leb h 2 ≡ pairFits e u i j
@@ -181,27 +180,3 @@ permitted-is n starts p r b e h f = rw (sym e ∙ h) f
 pub permitted-not : (n starts : ℕ) (p : List ℕ) (r : Bool) → r ≡ isReordering n p → r ≡ false → false ≡ isPermitted n starts p
 unfolding isPermitted both
 permitted-not n starts p r e h = rw (sym e ∙ h)
-
-pub place-starts : (p : List ℕ) (v : ℕ) → 0 ≡ placeOf p 0 v
-unfolding placeOf
-place-starts p v = refl
-
-pub place-here : (p : List ℕ) (v i s x found : ℕ) → s ≡ i → x ≡ at p (s + 1) → x ≡ v → i + 1 ≡ pick (eqb (at p (i + 1)) v) (i + 1) found
-unfolding pick
-place-here p v i s x found e a h = rw (eq-eqb (at p (i + 1)) v (ap (λ (k : ℕ). at p (k + 1)) (sym e) ∙ sym a ∙ h))
-
-pub place-before : (p : List ℕ) (v i s x found : ℕ) → s ≡ i → x ≡ at p (s + 1) → (x ≡ v → ⊥) → found ≡ pick (eqb (at p (i + 1)) v) (i + 1) found
-unfolding pick
-place-before p v i s x found e a h = rw (ne-eqb (at p (i + 1)) v (λ t. h (a ∙ ap (λ (k : ℕ). at p (k + 1)) e ∙ t)))
-
-pub place-turns : (p : List ℕ) (v i found r : ℕ) → found ≡ placeOf p i v → r ≡ pick (eqb (at p (i + 1)) v) (i + 1) found → r ≡ placeOf p (i + 1) v
-unfolding placeOf
-place-turns p v i found r h q = q ∙ rw (h, add-one i)
-
-pub place-done : (p : List ℕ) (v m n s found : ℕ) → found ≡ placeOf p m v → m ≤ n → s ≡ m → n ≤ s → found ≡ placeOf p n v
-place-done p v m n s found h a e b = let q : m ≡ n = omega arith in h ∙ ap (λ (k : ℕ). placeOf p k v) q
-
-pub pick-small : (t : Bool) (x y r : ℕ) → r ≡ pick t (x + 1) y → y ≤ x → r ≤ x + 1
-unfolding pick
-pick-small true x y r e b = omega arith
-pick-small false x y r e b = omega arith

@@ -10,7 +10,7 @@ use Rattle.laws.specs.UpTo.{listUpTo}
 use Rattle.laws.specs.UpToLaws.{list-length, list-at, list-same}
 use Rattle.graph.specs.Graph.{row, placed}
 
-zeros : (n k : ℕ) → getD {A = ℕ} (replicate n 0) k 0 ≡ 0
+pub zeros : (n k : ℕ) → getD {A = ℕ} (replicate n 0) k 0 ≡ 0
 zeros zero k = refl
 zeros (suc n) zero = refl
 zeros (suc n) (suc k) = zeros n k

@@ -3,7 +3,7 @@ ghost use mathlib.Core.Path.{_≡_};
 ghost use mathlib.Core.Bool.{true};
 ghost use mathlib.Core.Logic.{_≢_};
 ghost use Prim.Native.Nat.{_+_, _-_, _*_, _≤_, _<_, _^_};
-ghost use lib.Dec.{leb, eqb};
+ghost use lib.Dec.{leb};
 ghost use lib.Count.{ones};
 ghost use lib.ListN.{length};
 ghost use Rattle.laws.specs.UpTo.{allUpTo, sumUpTo};
@@ -13,7 +13,7 @@ ghost use Rattle.graph.specs.Graph.{entryIn, withMark, onesAt, blockOf, 
 ghost use Rattle.graph.specs.WellFormed.{rowFits, startsFit};
 ghost use Rattle.graph.specs.Stage.{lower, upper, staged, transposed, inBothHalves};
 ghost use Rattle.graph.specs.Standing.{stands, rowStands};
-ghost use Rattle.graph.specs.Arrangement.{at, differs, isNew, placeFits, isReordering, staysInBlock, isPermitted, placeOf, movedRow, through, composed, inverse};
+ghost use Rattle.graph.specs.Arrangement.{at, differs, isNew, placeFits, isReordering, staysInBlock, isPermitted, movedRow, through, composed, inverse};
 
 // A word as a wider one.
 fn wide(x: u32) -> u64
@@ -327,31 +327,6 @@ pub fn is_permitted(n: u32, starts: u32, p: [u8; 32]) -> bool
     false
 }
 
-// Place i + 1 where p has v there, else the place found before.
-fn later_place(p: &[u8; 32], v: u32, i: u8, found: u8) -> u8
-    requires { ⌜ i < 32 ⌝ }
-    ensures { λ r. ⌜ r ≡ pick (eqb (at (now (p .entry)) (i + 1)) v) (i + 1) found ⌝ }
-{
-    if vertex_at(p, small(i) + 1) == v {
-        return i + 1;
-    }
-    found
-}
-
-// The last of the places 1..n at which p has v, or 0.
-pub fn place_of(p: &[u8; 32], n: u32, v: u32) -> u8
-    requires { ⌜ n ≤ 32 ⌝ }
-    ensures { λ r. ⌜ (r ≡ placeOf (now (p .entry)) n v) × (r ≤ n) ⌝ }
-{
-    let mut found = 0u8;
-    let mut i = 0u8;
-    while small(i) < n {
-        found = later_place(p, v, i, found);
-        i += 1;
-    }
-    found
-}
-
 // ---- bits
 
 // The bit b at place k.
@@ -457,16 +432,16 @@ pub fn composed_of<'a>(n: u32, p: &'a [u8; 32], q: &'a [u8; 32]) -> [u8; 32]
     out
 }
 
-// The inverse of p.
+// The inverse of p: each place is put at the vertex that stands there.
 pub fn inverse_of(n: u32, p: &[u8; 32]) -> [u8; 32]
-    requires { ⌜ n ≤ 32 ⌝ }
+    requires { ⌜ (n ≤ 32) × (isReordering n (now p) ≡ true) ⌝ }
     ensures { λ r. ⌜ r ≡ inverse n (now (p .entry)) ⌝ }
 {
     let mut out = [0u8; 32];
     let mut i = 0;
     while i < n {
-        let at = i as usize;
-        out[at] = place_of(p, n, i + 1);
+        let at = (vertex_of(n, p, i + 1) - 1) as usize;
+        out[at] = (i + 1) as u8;
         i += 1;
     }
     out

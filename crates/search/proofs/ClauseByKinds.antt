@@ -1,5 +1,6 @@
--- The pass by numbers writes the clause: the kind of a pair tells whether the pair, or "not" the pair, is a literal.
-use Prim.Native.Nat.{ℕ, suc, _≤_, _<_}
+-- The pass over the pairs writes the clause: the kind of a pair tells whether the pair, or "not" the pair, is a literal.
+use Prim.Native.Nat.{ℕ, zero, suc, _+_, _≤_, _<_}
+use native.Mathlib.Nat.{le-trans, le-of-lt, suc-le-suc-iff}
 use native.Mathlib.Omega.{arith}
 use mathlib.Core.Path.{_≡_, refl, sym, ap, ap₂, subst, _∙_}
 use mathlib.Core.Logic.{_≢_, ⊎-elim}
@@ -8,9 +9,10 @@ use mathlib.Core.List.{List, [], _∷_, _++_, List·Memᴰ, List·Memᴰ·head, 
 use lib.IntN.{ℤ}
 use lib.ListN.{length, drop}
 use lib.Dec.{eqb}
+use borrow.Author.Tests.{leb-true, ltb-true, le-leb, lt-ltb}
 use Rattle.laws.specs.Compared.{by-order, by-below, by-same}
 use Rattle.laws.specs.Each.{Each, each-rest}
-use Rattle.laws.specs.TestLaws.{fails}
+use Rattle.laws.specs.TestLaws.{fails, not-both-ways}
 use Rattle.walk.specs.Walk.{won}
 use Rattle.walk.specs.Words.{StandsIn}
 use Rattle.walk.specs.Clause.{Literal, absent, present, among, numbered, clauseAfter, clause, Met}
@@ -20,44 +22,65 @@ use Rattle.graph.specs.declared.Graph.{Graph}
 use Rattle.graph.specs.WellFormed.{wellFormed}
 use Rattle.graph.specs.Arrangement.{at, Reordering, isReordering, isPermitted, inverse}
 use Rattle.graph.specs.Pairs.{Pair, pair, pairs, number, entryAt}
-use Rattle.graph.proofs.PairLaws.{Between, numberOf, pairs-given, pairs-has, number-one}
+use Rattle.graph.proofs.PairLaws.{Between, numberOf, pairs-given, pairs-has, number-one, number-next-row}
 use Rattle.graph.proofs.Formed.{formed}
 use Rattle.graph.proofs.Permits.{permitted, reordering-tested}
 use Rattle.graph.proofs.Composing.{inverse-before, inverse-reordering}
 use Rattle.search.specs.Judging.{samePair, pairOfTwo, image, walkAll, literalsOf, clauseOf}
 use Rattle.search.specs.Code.{graphIn}
-use Rattle.search.specs.Clauses.{kindBy, kindAt, writtenFor, writtenAlong, AtStart}
+use Rattle.search.specs.Clauses.{reached, kindAt, writtenFor, writtenAlong, Wrote}
 use Rattle.search.proofs.Arrangements.{samePair-tells, image-between}
 use Rattle.search.proofs.Images.{two-rising, two-falling, image-once}
 use Rattle.search.proofs.Judgements.{walk-stands}
 use Rattle.search.proofs.Literals.{stands-before, before-stands}
-use Rattle.search.proofs.CodeClause.{kind-own, kind-not, kind-not-late, kind-gap, kind-gap-late, kind-unknown}
+use Rattle.search.proofs.CodeClause.{reached-row, reached-other, Seen, itself, edge, late-edge, gap, late-gap, unknown, seen}
 
--- ---- the cases of a kind
+-- ---- the order of the pairs is that of their numbers
 
-data Seen (a m source s : ℕ) : ℕ → Type 0 where
-  own : source ≡ m → Seen a m source s 0
-  edge : source ≢ m → a ≡ 1 → m ≤ s → Seen a m source s 1
-  late-edge : a ≡ 1 → s < m → Seen a m source s 0
-  gap : source ≢ m → a ≡ 0 → source ≤ s → Seen a m source s 2
-  late-gap : a ≡ 0 → s < source → Seen a m source s 0
-  unknown : a ≢ 1 → a ≢ 0 → Seen a m source s 0
+-- along a row numbers go with columns
+columns-rise : (n i j l : ℕ) → j ≤ l → number n i j ≤ number n i l
+columns-rise n i j l h = omega arith
 
-seen : (a m source s : ℕ) → Seen a m source s (kindBy a m source s)
-seen a m source s =
-    by-same source m (λ (e : source ≡ m). subst case (kind-own a m source s e) (own e))
-    (λ (d : source ≢ m).
-    by-same a 1 (λ (e : a ≡ 1).
-    by-below s m (λ (l : s < m). subst case (kind-not-late a m source s d e l) (late-edge e l))
-    (λ (l : m ≤ s). subst case (kind-not a m source s d e l) (edge d e l)))
-    (λ (o : a ≢ 1).
-    by-same a 0 (λ (e : a ≡ 0).
-    by-below s source (λ (l : s < source). subst case (kind-gap-late a m source s d o e l) (late-gap e l))
-    (λ (l : source ≤ s). subst case (kind-gap a m source s d o e l) (gap d e l)))
-    (λ (z : a ≢ 0). subst case (kind-unknown a m source s d o z) (unknown o z))))
+columns-told : (n i j l : ℕ) → i < j → number n i j ≤ number n i l → j ≤ l
+columns-told n i j l r h = omega arith
+
+-- a pair of a later row has a larger number
+row-rises : (n i j k l : ℕ) → 1 ≤ i → i < k → k < l → l ≤ n → j ≤ n → number n i j < number n k l
+row-rises n i j zero l a b c d e = absurd (omega arith)
+row-rises n i j (suc k) l a b c d e =
+    by-same i k (λ (q : i ≡ k). past (number n i j) (rw q (columns-rise n k j n e)))
+    (λ (q : i ≢ k).
+    past (number n i j)
+    (le-trans (le-of-lt (row-rises n i j k (suc k) a (omega arith) (omega arith) (omega arith) e)) (columns-rise n k (suc k) n (omega arith))))
   where
-    case : ℕ → Type 0
-    case c = Seen a m source s c
+    next : number n (suc k) (suc (suc k)) ≤ number n (suc k) l
+    next = columns-rise n (suc k) (suc (suc k)) l c
+
+    past : (m : ℕ) → m ≤ number n k n → m < number n (suc k) l
+    past m h = le-trans (rw (number-next-row n k (omega arith) (omega arith)) (suc-le-suc-iff .1 h)) next
+
+module _ (n : ℕ) (last k : Pair) (a : Between 1 n last) (b : Between 1 n k) where
+  pub reached-small : reached last k ≡ true → numberOf n k ≤ numberOf n last
+  reached-small h =
+      by-same (k .row) (last .row)
+      (λ (e : k .row ≡ last .row).
+      let c = leb-true (k .column) (last .column) (reached-row (k .row) (k .column) (last .row) (last .column) e ∙ h) in
+      rw e (columns-rise n (last .row) (k .column) (last .column) c))
+      (λ (d : k .row ≢ last .row).
+      let c = ltb-true (k .row) (last .row) (reached-other (k .row) (k .column) (last .row) (last .column) d ∙ h) in
+      omega (arith, row-rises n (k .row) (k .column) (last .row) (last .column) (b .from-low) c (a .rising) (a .to-high) (b .to-high)))
+
+  pub small-reached : numberOf n k ≤ numberOf n last → reached last k ≡ true
+  small-reached h =
+      by-order (k .row) (last .row)
+      (λ (l : k .row < last .row).
+      sym (reached-other (k .row) (k .column) (last .row) (last .column) (λ e. omega arith)) ∙ lt-ltb (k .row) (last .row) l)
+      (λ (e : k .row ≡ last .row).
+      let c : number n (last .row) (k .column) ≤ number n (last .row) (last .column) = rw e at h in
+      let r : last .row < k .column = omega (arith, b .rising, e) in
+      sym (reached-row (k .row) (k .column) (last .row) (last .column) e) ∙ le-leb (k .column) (last .column) (columns-told n (last .row) (k .column) (last .column) r c))
+      (λ (l : last .row < k .row).
+      absurd (omega (arith, h, row-rises n (last .row) (last .column) (k .row) (k .column) (a .from-low) l (b .rising) (b .to-high) (a .to-high))))
 
 -- ---- the pair whose image a pair is
 
@@ -95,16 +118,18 @@ module _ (g : Graph) (p : List ℕ) (high : g .order ≤ 32) (r : Reordering (g 
   standing-between : Between 1 (g .order) k
   standing-between = pairs-given (g .order) k (rw (stands .split) (Memᴰ·append-right (stands .before) (List·Memᴰ·head refl)))
 
-  -- the pairs up to the standing one are those whose number is no larger
-  reached-small : (j : Pair) → List·Memᴰ j up-to → numberOf (g .order) j ≤ numberOf (g .order) k
-  reached-small j m =
-      ⊎-elim
-      (λ (b : List·Memᴰ j (stands .before)). let c = stands-before (g .order) k (stands .before) (stands .after) (stands .split) j b in omega (arith, c .smaller))
-      (λ (b : List·Memᴰ j (k ∷ [])). omega (arith, ap (numberOf (g .order)) (List·Memᴰ·eq-of-singleton b)))
-      (List·Memᴰ·append-cases (stands .before) m)
+  -- the pairs up to the standing one are those that are reached
+  listed-reached : (j : Pair) → Between 1 (g .order) j → List·Memᴰ j up-to → reached k j ≡ true
+  listed-reached j b m =
+      small-reached (g .order) k j standing-between b
+      (⊎-elim
+      (λ (l : List·Memᴰ j (stands .before)). let c = stands-before (g .order) k (stands .before) (stands .after) (stands .split) j l in omega (arith, c .smaller))
+      (λ (l : List·Memᴰ j (k ∷ [])). omega (arith, ap (numberOf (g .order)) (List·Memᴰ·eq-of-singleton l)))
+      (List·Memᴰ·append-cases (stands .before) m))
 
-  small-reached : (j : Pair) → Between 1 (g .order) j → numberOf (g .order) j ≤ numberOf (g .order) k → List·Memᴰ j up-to
-  small-reached j b l =
+  reached-listed : (j : Pair) → Between 1 (g .order) j → reached k j ≡ true → List·Memᴰ j up-to
+  reached-listed j b e =
+      let small = reached-small (g .order) k j standing-between b e in
       by-below (numberOf (g .order) j) (numberOf (g .order) k)
       (λ (h : numberOf (g .order) j < numberOf (g .order) k).
       Memᴰ·append-left (k ∷ []) (before-stands (g .order) k (stands .before) (stands .after) (stands .split) j record { between = b; smaller = h }))
@@ -116,43 +141,41 @@ module _ (g : Graph) (p : List ℕ) (high : g .order ≤ 32) (r : Reordering (g 
     source-between = image-between (g .order) (inverse (g .order) p) (inverse-reordering (g .order) p r high) j b
 
     -- the pair is its own image exactly where it is its own source
-    moved-apart : image p j ≢ j → numberOf (g .order) (source j) ≢ numberOf (g .order) j
-    moved-apart m e =
-        m (ap (image p) (sym (number-one (g .order) (source j) j source-between b e)) ∙ source-image (g .order) p r j b)
+    itself-fixed : samePair (source j) j ≡ true → image p j ≡ j
+    itself-fixed e = ap (image p) (sym (samePair-tells .equal (source j) j e)) ∙ source-image (g .order) p r j b
 
-    apart-moved : numberOf (g .order) (source j) ≢ numberOf (g .order) j → image p j ≢ j
+    apart : samePair (source j) j ≡ false → source j ≢ j
+    apart d e = not-both-ways (samePair (source j) j) (ap (λ (i : Pair). samePair i j) e ∙ samePair-tells .itself j) d
+
+    apart-moved : samePair (source j) j ≡ false → image p j ≢ j
     apart-moved d e =
-        d (ap (numberOf (g .order))
-        (image-once (g .order) p r (source j) j (pairs-has (g .order) (source j) source-between) (pairs-has (g .order) j b) (source-image (g .order) p r j b ∙ sym e)))
+        apart d
+        (image-once (g .order) p r (source j) j (pairs-has (g .order) (source j) source-between) (pairs-has (g .order) j b) (source-image (g .order) p r j b ∙ sym e))
 
-    apart-source : numberOf (g .order) (source j) ≢ numberOf (g .order) j → image p (source j) ≢ source j
-    apart-source d e = d (ap (numberOf (g .order)) (sym e ∙ source-image (g .order) p r j b))
-
-    -- ---- "not" the pair
-
-    met-edge : Met (entryAt g) (image p) up-to (absent j)
-        → (numberOf (g .order) (source j) ≢ numberOf (g .order) j) × (entryAt g j ≡ 1) × (numberOf (g .order) j ≤ numberOf (g .order) k)
-    met-edge m = (moved-apart (m .moved), m .edge, reached-small j (m .listed))
+    apart-source : samePair (source j) j ≡ false → image p (source j) ≢ source j
+    apart-source d e = apart d (sym e ∙ source-image (g .order) p r j b)
 
     -- ---- the pair
 
-    met-gap : Met (entryAt g) (image p) up-to (present j)
-        → (numberOf (g .order) (source j) ≢ numberOf (g .order) j) × (entryAt g j ≡ 0) × (numberOf (g .order) (source j) ≤ numberOf (g .order) k)
-    met-gap m =
-        let listed : List·Memᴰ (m .source) (pairs (g .order)) = reached-listed (m .source) (m .listed) in
-        let same : m .source ≡ source j =
-        image-once (g .order) p r (m .source) (source j) listed (pairs-has (g .order) (source j) source-between) (m .image ∙ sym (source-image (g .order) p r j b)) in (
-          λ e. m .moved (m .image ∙ sym (same ∙ number-one (g .order) (source j) j source-between b e)),
-          m .gap,
-          subst (λ (i : Pair). numberOf (g .order) i ≤ numberOf (g .order) k) same (reached-small (m .source) (m .listed)),
-        )
+    -- the pair that is met is the source
+    met-source : (m : Met (entryAt g) (image p) up-to (present j)) → m .source ≡ source j
+    met-source m =
+        image-once (g .order) p r (m .source) (source j) (in-pairs (m .source) (m .listed)) (pairs-has (g .order) (source j) source-between)
+        (m .image ∙ sym (source-image (g .order) p r j b))
       where
-        reached-listed : (i : Pair) → List·Memᴰ i up-to → List·Memᴰ i (pairs (g .order))
-        reached-listed i l =
+        in-pairs : (i : Pair) → List·Memᴰ i up-to → List·Memᴰ i (pairs (g .order))
+        in-pairs i l =
             rw (stands .split)
             (⊎-elim (λ (h : List·Memᴰ i (stands .before)). Memᴰ·append-left (k ∷ stands .after) h)
             (λ (h : List·Memᴰ i (k ∷ [])). Memᴰ·append-right (stands .before) (List·Memᴰ·head (List·Memᴰ·eq-of-singleton h)))
             (List·Memᴰ·append-cases (stands .before) l))
+
+    met-reached : Met (entryAt g) (image p) up-to (present j) → reached k (source j) ≡ true
+    met-reached m =
+        listed-reached (source j) source-between (subst (λ (i : Pair). List·Memᴰ i up-to) (met-source m) (m .listed))
+
+    met-moved : Met (entryAt g) (image p) up-to (present j) → samePair (source j) j ≡ true → ⊥
+    met-moved m e = m .moved (m .image ∙ sym (met-source m ∙ samePair-tells .equal (source j) j e))
 
     -- ---- by the kind
 
@@ -167,32 +190,35 @@ module _ (g : Graph) (p : List ℕ) (high : g .order ≤ 32) (r : Reordering (g 
         (λ e. never (literals-in-words samePair-tells (entryAt g) (image p) (pairs (g .order)) k stands l .0 (among-listed samePair-tells l (literalsOf g p) .0 e)))
 
     -- kind 1 tells that "not" the pair is a literal, kind 2 that the pair is one
-    told : {c : ℕ} → Seen (entryAt g j) (numberOf (g .order) j) (numberOf (g .order) (source j)) (numberOf (g .order) k) c
+    told : {c : ℕ} → Seen (entryAt g j) (samePair (source j) j) (reached k j) (reached k (source j)) c
         → (among samePair (absent j) (literalsOf g p) ≡ eqb c 1) × (among samePair (present j) (literalsOf g p) ≡ eqb c 2)
-    told (own e) = (not-among (absent j) (λ m. met-edge m .0 e), not-among (present j) (λ m. met-gap m .0 e))
+    told (itself e) = (not-among (absent j) (λ m. m .moved (itself-fixed e)), not-among (present j) (λ m. met-moved m e))
     told (edge d e l) = (
-      is-among (absent j) record { listed = small-reached j b l; moved = apart-moved d; edge = e },
-      not-among (present j) (λ m. omega (arith, met-gap m .1, e)),
+      is-among (absent j) record { listed = reached-listed j b l; moved = apart-moved d; edge = e },
+      not-among (present j) (λ m. omega (arith, m .gap, e)),
     )
-    told (late-edge e l) =
-        (not-among (absent j) (λ m. omega (arith, met-edge m .2, l)), not-among (present j) (λ m. omega (arith, met-gap m .1, e)))
+    told (late-edge e l) = (
+      not-among (absent j) (λ m. not-both-ways (reached k j) (listed-reached j b (m .listed)) l),
+      not-among (present j) (λ m. omega (arith, m .gap, e)),
+    )
     told (gap d e l) = (
-      not-among (absent j) (λ m. omega (arith, met-edge m .1, e)),
+      not-among (absent j) (λ m. omega (arith, m .edge, e)),
       is-among (present j)
-          record { source = source j; listed = small-reached (source j) source-between l; moved = apart-source d; image = source-image (g .order) p r j b; gap = e },
+          record { source = source j; listed = reached-listed (source j) source-between l; moved = apart-source d; image = source-image (g .order) p r j b; gap = e },
     )
-    told (late-gap e l) =
-        (not-among (absent j) (λ m. omega (arith, met-edge m .1, e)), not-among (present j) (λ m. omega (arith, met-gap m .2, l)))
-    told (unknown o z) = (not-among (absent j) (λ m. o (met-edge m .1)), not-among (present j) (λ m. z (met-gap m .1)))
+    told (late-gap e l) = (
+      not-among (absent j) (λ m. omega (arith, m .edge, e)),
+      not-among (present j) (λ m. not-both-ways (reached k (source j)) (met-reached m) l),
+    )
+    told (unknown o z) = (not-among (absent j) (λ m. o (m .edge)), not-among (present j) (λ m. z (m .gap)))
 
   -- the kinds by which the clause is written
   abbrev kinds : Pair → ℕ
-  kinds = kindAt (g .edges) (g .unknowns) (inverse (g .order) p) (g .order) (numberOf (g .order) k)
+  kinds = kindAt (g .edges) (g .unknowns) (inverse (g .order) p) k
 
   kinds-tell : Each (λ j. (among samePair (absent j) (literalsOf g p) ≡ eqb (kinds j) 1) × (among samePair (present j) (literalsOf g p) ≡ eqb (kinds j) 2)) (pairs (g .order))
   unfolding kindAt
-  kinds-tell j m =
-      told j (pairs-given (g .order) j m) (seen (entryAt g j) (numberOf (g .order) j) (numberOf (g .order) (source j)) (numberOf (g .order) k))
+  kinds-tell j m = told j (pairs-given (g .order) j m) (seen (entryAt g j) (samePair (source j) j) (reached k j) (reached k (source j)))
 
 -- a number is written in front of the rest
 numbered-front : (a p : Bool) (m : ℕ) (rest : List ℤ) → numbered a p m [] ++ rest ≡ numbered a p m rest
@@ -212,17 +238,14 @@ along-clause t lits i (j ∷ ks) h =
     rw (here .0, here .1, along-clause t lits (suc i) ks (each-rest (λ j. (among samePair (absent j) lits ≡ eqb (t j) 1) × (among samePair (present j) lits ≡ eqb (t j) 2)) h))
     (numbered-front (eqb (t j) 1) (eqb (t j) 2) (suc i) (clauseAfter samePair lits (suc i) ks))
 
--- the pass by numbers writes the clause of an arrangement with a standing pair
+-- the pass writes the clause of an arrangement with a standing pair
 pub kinds-clause : (g : Graph) (p : List ℕ) → g .order ≤ 32 → Reordering (g .order) p → (k : Pair) → StandsIn (entryAt g) (image p) (pairs (g .order)) k
-    → writtenAlong (kindAt (g .edges) (g .unknowns) (inverse (g .order) p) (g .order) (numberOf (g .order) k)) 0 (pairs (g .order)) ≡ clauseOf g p
+    → writtenAlong (kindAt (g .edges) (g .unknowns) (inverse (g .order) p) k) 0 (pairs (g .order)) ≡ clauseOf g p
 unfolding clauseOf clause
 kinds-clause g p high r k stands =
-    along-clause (kindAt (g .edges) (g .unknowns) (inverse (g .order) p) (g .order) (numberOf (g .order) k)) (literalsOf g p) 0 (pairs (g .order)) (kinds-tell g p high r k stands)
+    along-clause (kindAt (g .edges) (g .unknowns) (inverse (g .order) p) k) (literalsOf g p) 0 (pairs (g .order)) (kinds-tell g p high r k stands)
 
 -- ---- as the code meets it
-
-pub order-low : (n : ℕ) (e u : List ℕ) (starts : ℕ) → wellFormed (graphIn n e u starts) ≡ true → 1 ≤ n
-order-low n e u starts well = formed (graphIn n e u starts) well .order-low
 
 module _ (n : ℕ) (e u : List ℕ) (starts : ℕ) (p : List ℕ) (row column : ℕ) (well : wellFormed (graphIn n e u starts) ≡ true)
     (walks : walkAll (graphIn n e u starts) p ≡ won (pair row column)) where
@@ -235,26 +258,28 @@ module _ (n : ℕ) (e u : List ℕ) (starts : ℕ) (p : List ℕ) (row column : 
   pub row-low : 1 ≤ row
   row-low = at-between .from-low
 
-  pub row-before : row ≤ column
-  row-before = omega (arith, at-between .rising)
+  pub row-before : row < column
+  row-before = at-between .rising
 
   pub column-high : column ≤ n
   column-high = at-between .to-high
 
-  module _ (fits : isPermitted n starts p ≡ true) (q : List ℕ) (inverts : q ≡ inverse n p) where
-    reorders : Reordering n p
+  module _ (fits : isPermitted n starts p ≡ true) where
+    pub reorders : Reordering n p
     reorders = permitted n starts p (formed (graphIn n e u starts) well .order-high) fits .reordering
 
-    pub inverse-tested : isReordering n q ≡ true
-    inverse-tested = rw inverts (reordering-tested n (inverse n p) (inverse-reordering n p reorders (formed (graphIn n e u starts) well .order-high)))
+    pub path-tested : isReordering n p ≡ true
+    path-tested = reordering-tested n p reorders
 
-    module _ (s : ℕ) (standing : s ≡ number n row column) (old new : List ℤ) (r : ℕ)
-        (done : AtStart (writtenAlong (kindAt e u q n s) 0 (pairs n)) old new r) where
-      whole : writtenAlong (kindAt e u q n s) 0 (pairs n) ≡ clauseOf (graphIn n e u starts) p
-      whole = rw (inverts, standing) (kinds-clause (graphIn n e u starts) p (formed (graphIn n e u starts) well .order-high) reorders (pair row column) at-pair)
+    module _ (q : List ℕ) (inverts : q ≡ inverse n p) (old new : List ℤ) (r : ℕ)
+        (done : Wrote (writtenAlong (kindAt e u q (pair row column)) 0 (pairs n)) old 0 new r) where
+      whole : writtenAlong (kindAt e u q (pair row column)) 0 (pairs n) ≡ clauseOf (graphIn n e u starts) p
+      whole = rw inverts (kinds-clause (graphIn n e u starts) p (formed (graphIn n e u starts) well .order-high) reorders (pair row column) at-pair)
 
       pub clause-counted : r ≡ length (clauseOf (graphIn n e u starts) p)
-      clause-counted = done .counted ∙ ap length whole
+      clause-counted = omega (arith, done .counted, ap length whole)
 
       pub clause-written : new ≡ clauseOf (graphIn n e u starts) p ++ drop (length (clauseOf (graphIn n e u starts) p)) old
-      clause-written = done .written ∙ ap (λ (l : List ℤ). l ++ drop (length l) old) whole
+      clause-written =
+          let z : 0 + length (clauseOf (graphIn n e u starts) p) ≡ length (clauseOf (graphIn n e u starts) p) = omega arith in
+          rw (whole, z) at (done .written)

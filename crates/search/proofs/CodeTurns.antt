@@ -132,7 +132,7 @@ module _ (t : Pair → ℕ) where
       go rest zero e = code-rest k (xs ++ ys) e ∙ rest (λ z. h (code-rest k xs e ∙ z)) ∙ sym (code-rest k xs e)
       go rest (suc c) e = let z : t k ≡ 0 → ⊥ = λ q. omega (arith, sym e ∙ q) in code-first k (xs ++ ys) z ∙ sym (code-first k xs z)
 
-  row-and-rest : (n i : ℕ) → i < n → fromRow i (n - i) ≡ alongRow i (i + 1) (n + 1 - (i + 1)) ++ fromRow (i + 1) (n - (i + 1))
+  pub row-and-rest : (n i : ℕ) → i < n → fromRow i (n - i) ≡ alongRow i (i + 1) (n + 1 - (i + 1)) ++ fromRow (i + 1) (n - (i + 1))
   row-and-rest n i h =
       let a : n + 1 - (i + 1) ≡ n - i = omega arith in
       let b : i + 1 ≡ suc i = omega arith in

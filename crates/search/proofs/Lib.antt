@@ -5,6 +5,7 @@ pub mod AlikeRows
 pub mod StopLaws
 pub mod CodeClause
 pub mod Writing
+pub mod ClauseMasks
 pub mod CodeMasks
 pub mod MaskLaws
 pub mod Arrangements

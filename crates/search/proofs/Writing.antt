@@ -1,57 +1,66 @@
--- The pass over the pairs that writes a clause: what holds at each turn, and what it leaves.
-use Prim.Native.Nat.{ℕ, suc, _+_, _-_, _*_, _^_, _≤_, _<_}
+-- The pass over the pairs that writes a clause: what holds at each turn of its loops, and what it leaves.
+use Prim.Native.Nat.{ℕ, zero, suc, _+_, _-_, _/_, _%_, _^_, _≤_, _<_}
 use native.Mathlib.Omega.{arith}
 use mathlib.Core.Path.{_≡_, refl, sym, ap, ap₂, _∙_}
+use mathlib.Core.Logic.{_≢_, ⊎-elim}
 use mathlib.Core.Bool.{Bool, true, false}
-use mathlib.Core.List.{List, [], _∷_, _++_, append-assoc, append-nil}
+use mathlib.Core.List.{List, [], _∷_, _++_, append-assoc, append-nil, List·Memᴰ, List·Memᴰ·cases-cons}
 use lib.IntN.{ℤ}
 use lib.ListN.{length, take, drop, take-append-drop, length-append, length-drop}
 use lib.Seq.{take-at, drop-at, drop-drop, length-take-le}
+use lib.Count.{trailingZeros}
 use lib.Dec.{eqb}
+use lib.Pow.{shr-shr}
+use Rattle.laws.specs.Compared.{by-same}
+use Rattle.laws.specs.Bit.{bit}
+use Rattle.laws.specs.BitLaws.{bit-of-zero, bits-past, below-of-bits}
+use Rattle.laws.specs.Chosen.{Ascending, is-chosen, chosen-ascend}
+use Rattle.laws.specs.Masks.{marked, members, is-marked, not-empty, lowest-below, lowest-first}
 use Rattle.walk.specs.Clause.{numbered}
 use Rattle.graph.specs.Pairs.{Pair, pair, alongRow, fromRow, pairs, pairCount, number}
-use Rattle.graph.proofs.PairLaws.{pairCount-mono, number-first, number-along, number-next-row, number-high, fromRow-split, pairs-row-one}
-use Rattle.search.specs.Clauses.{writtenFor, writtenAlong, Put, AtStart}
+use Rattle.graph.proofs.PairLaws.{pairCount-mono, number-first, number-next-row, number-low, number-high, alongRow-length}
+use Rattle.search.specs.Clauses.{writtenFor, writtenAlong, Ahead, Wrote}
+use Rattle.search.proofs.CodeTurns.{row-and-rest}
 
--- ---- the pairs from a given one on
+-- ---- texts in the buffer
 
--- the pairs from (i, j) on
-abbrev pub pairsFrom : ℕ → ℕ → ℕ → List Pair
-pairsFrom n i j = alongRow i j (n + 1 - j) ++ fromRow (i + 1) (n - (i + 1))
+-- nothing is written after the literals
+wrote-none : (buffer : List ℤ) (count : ℕ) → Wrote [] buffer count buffer count
+wrote-none buffer count =
+    let z : count + 0 ≡ count = omega arith in
+    record { counted = sym z; written = rw (z, append-nil (take count buffer)) (sym (take-append-drop count buffer)) }
 
--- all of them
-from-first : (n : ℕ) → pairs n ≡ pairsFrom n 1 2
-from-first n =
-    let a : n + 1 - 2 ≡ n - 1 = omega arith in
-    rw a (pairs-row-one n)
+-- one text after another
+module _ (a b old mid new : List ℤ) (count some more : ℕ) (first : Wrote a old count mid some) (second : Wrote b mid some new more) (room : count ≤ length old) where
+  front : length (take count old ++ a) ≡ some
+  front = length-append (take count old) a ∙ ap (λ (x : ℕ). x + length a) (length-take-le count old room) ∙ sym (first .counted)
 
--- the next one in its row
-from-along : (n i j : ℕ) → j ≤ n → pairsFrom n i j ≡ pair i j ∷ pairsFrom n i (j + 1)
-unfolding alongRow
-from-along n i j h =
-    let s : n + 1 - j ≡ suc (n + 1 - (j + 1)) = omega arith in
-    let e : j + 1 ≡ suc j = omega arith in
-    rw (s, e)
+  kept : drop (some + length b) mid ≡ drop (count + length (a ++ b)) old
+  kept =
+      let s : count + length a + length b ≡ count + length (a ++ b) = omega (arith, length-append a b) in
+      sym (drop-drop (length b) some mid)
+      ∙ ap (drop (length b)) (ap (drop some) (first .written) ∙ drop-at (take count old ++ a) (drop (count + length a) old) some front)
+      ∙ drop-drop (length b) (count + length a) old ∙ ap (λ (x : ℕ). drop x old) s
 
--- past the end of a row comes the next row
-from-row : (n i j : ℕ) → n < j → pairsFrom n i j ≡ pairsFrom n (i + 1) (i + 1 + 1)
-unfolding alongRow
-from-row n i j h =
-    let z : n + 1 - j ≡ 0 = omega arith in
-    let a : n + 1 - (i + 1 + 1) ≡ n - (i + 1) = omega arith in
-    let b : n - (i + 1 + 1) ≡ n - (i + 1) - 1 = omega arith in
-    let c : i + 1 + 1 ≡ suc (i + 1) = omega arith in
-    rw (z, a, b, c) (fromRow-split (i + 1) (n - (i + 1)))
+  begun : take some mid ++ b ≡ take count old ++ (a ++ b)
+  begun =
+      ap (λ (l : List ℤ). l ++ b) (ap (take some) (first .written) ∙ take-at (take count old ++ a) (drop (count + length a) old) some front)
+      ∙ append-assoc (take count old) a b
 
--- and past the last row nothing
-from-none : (n i j : ℕ) → n ≤ i → i < j → pairsFrom n i j ≡ []
-unfolding alongRow fromRow
-from-none n i j h l =
-    let y : n + 1 - j ≡ 0 = omega arith in
-    let z : n - (i + 1) ≡ 0 = omega arith in
-    rw (y, z)
+  wrote-both : Wrote (a ++ b) old count new more
+  wrote-both =
+      record {
+        counted = second .counted ∙ omega (arith, first .counted, length-append a b);
+        written = second .written ∙ ap₂ _++_ begun kept;
+      }
 
--- ---- one pair's literal
+-- the buffer keeps its length
+wrote-long : (text old new : List ℤ) (count r : ℕ) → Wrote text old count new r → r ≤ length old → length new ≡ length old
+wrote-long text old new count r w room =
+    ap length (w .written) ∙ length-append (take count old ++ text) (drop (count + length text) old)
+    ∙ omega (arith, length-append (take count old) text, length-take-le count old (omega (arith, w .counted)), length-drop (count + length text) old, w .counted)
+
+-- ---- what is written along pairs
 
 -- a pair is written once at most
 written-once : (kind m : ℕ) → length (writtenFor kind m) ≤ 1
@@ -63,164 +72,299 @@ written-once kind m = go (eqb kind 1) (eqb kind 2)
     go false true = omega arith
     go false false = omega arith
 
--- ---- the pass
+-- nothing is written for kind 0
+none-written : (m : ℕ) → writtenFor 0 m ≡ []
+unfolding writtenFor numbered
+none-written m = refl
 
--- before the turn at (i, j), whose number is m: the first count literals and what is still to come are all that is to be written
-pub record Writing (t : Pair → ℕ) (n : ℕ) (old new : List ℤ) (i j m count : ℕ) : Type 0 where
+module _ (t : Pair → ℕ) where
+  along-most : (a : ℕ) (ks : List Pair) → length (writtenAlong t a ks) ≤ length ks
+  unfolding writtenAlong
+  along-most a [] = omega arith
+  along-most a (k ∷ ks) =
+      omega (arith, length-append (writtenFor (t k) (suc a)) (writtenAlong t (suc a) ks), written-once (t k) (suc a), along-most (suc a) ks)
+
+  along-both : (a : ℕ) (ks ls : List Pair) → writtenAlong t a (ks ++ ls) ≡ writtenAlong t a ks ++ writtenAlong t (a + length ks) ls
+  unfolding writtenAlong
+  along-both a [] ls = let z : a + 0 ≡ a = omega arith in rw z
+  along-both a (k ∷ ks) ls =
+      let s : a + suc (length ks) ≡ suc a + length ks = omega arith in
+      rw (s, along-both (suc a) ks ls) (sym (append-assoc (writtenFor (t k) (suc a)) (writtenAlong t (suc a) ks) (writtenAlong t (suc a + length ks) ls)))
+
+  -- pairs of kind 0 are passed over
+  along-skips : (i j a d m : ℕ) → ((x : ℕ) → x < d → t (pair i (j + x)) ≡ 0) → writtenAlong t a (alongRow i j (d + m)) ≡ writtenAlong t (a + d) (alongRow i (j + d) m)
+  unfolding writtenAlong alongRow
+  along-skips i j a zero m none = let y : a + 0 ≡ a = omega arith in let z : j + 0 ≡ j = omega arith in let w : 0 + m ≡ m = omega arith in rw (y, z, w)
+  along-skips i j a (suc d) m none =
+      let w : suc d + m ≡ suc (d + m) = omega arith in
+      let y : a + suc d ≡ suc a + d = omega arith in
+      let z : j + suc d ≡ suc j + d = omega arith in
+      let here : t (pair i j) ≡ 0 = let w : j + 0 ≡ j = omega arith in rw w at (none 0 (omega arith)) in
+      rw (w, here, none-written (suc a), y, z)
+      (along-skips i (suc j) (suc a) d m (λ x l. let w : j + suc x ≡ suc j + x = omega arith in rw w at (none (suc x) (omega arith))))
+
+-- ---- the columns of a mask
+
+module _ (m n k : ℕ) (count : k ≡ trailingZeros 32 m) (fits : m < 2 ^ n) (small : n ≤ 32) (some : m ≢ 0) where
+  -- no bit below the lowest is set
+  pub lowest-least : (d : ℕ) → d < k → bit m d ≢ 1
+  unfolding members
+  lowest-least d l e =
+      ⊎-elim (λ (q : suc d ≡ suc k). omega arith)
+      (λ (q : List·Memᴰ (suc d) (members (m - 2 ^ k) n)). omega (arith, head .0 (suc d) q))
+      (List·Memᴰ·cases-cons (rw first at there))
+    where
+      first : members m n ≡ suc k ∷ members (m - 2 ^ k) n
+      first = lowest-first m n k (m - 2 ^ k) count refl fits small (not-empty m some)
+
+      there : List·Memᴰ (suc d) (members m n)
+      there =
+          let place : suc d - 1 ≡ d = omega arith in
+          is-chosen (marked m) n (suc d) (omega arith) (omega (arith, lowest-below m n k count fits small (not-empty m some))) (is-marked m (suc d) (rw place e))
+
+      head : Ascending (suc k ∷ members (m - 2 ^ k) n)
+      head = rw first at (chosen-ascend (marked m) n)
+
+-- ---- along a row
+
+-- before the turn at column j, whose number is m: what is written of the row and what is still to come is all of it
+pub record Along (t : Pair → ℕ) (n i start : ℕ) (old new : List ℤ) (left j m count : ℕ) : Type 0 where
+  pub done : List ℤ
+  pub wrote : Wrote done old start new count
+  pub rest : done ++ writtenAlong t (m - 1) (alongRow i j (n + 1 - j)) ≡ writtenAlong t (number n i (i + 1) - 1) (alongRow i (i + 1) (n + 1 - (i + 1)))
   pub low : 1 ≤ i
-  pub rows : i ≤ n
   pub high : n ≤ 32
   pub rising : i < j
-  pub columns : i < n → j ≤ n
+  pub columns : j ≤ n + 1
   pub here : m ≡ number n i j
   pub few : count < m
-  pub within : count ≤ pairCount n
   pub room : pairCount n ≤ length old
   pub long : length new ≡ length old
-  pub rest : take count new ++ writtenAlong t (m - 1) (pairsFrom n i j) ≡ writtenAlong t 0 (pairs n)
-  pub kept : drop count new ≡ drop count old
+  pub fits : left < 2 ^ (n + 1 - j)
+  pub ahead : Ahead t n i j left
 
--- it begins at (1, 2) with nothing written
-pub writing-begins : (t : Pair → ℕ) (n : ℕ) (old : List ℤ) → 1 ≤ n → n ≤ 32 → pairCount n ≤ length old → Writing t n old old 1 2 1 0
-writing-begins t n old low high room =
+pub along-begins : (t : Pair → ℕ) (n i : ℕ) (old : List ℤ) (left m count : ℕ) → n ≤ 32 → 1 ≤ i → i < n → count < number n i (i + 1) → pairCount n ≤ length old
+    → left < 2 ^ (n + 1 - (i + 1)) → Ahead t n i (i + 1) left → m ≡ number n i (i + 1) → Along t n i count old old left (i + 1) m count
+along-begins t n i old left m count high low more few room fits ahead here =
     record {
-      low = omega arith;
-      rows = low;
+      done = [];
+      wrote = wrote-none old count;
+      rest = rw here;
+      low = low;
       high = high;
       rising = omega arith;
-      columns = λ h. omega arith;
-      here = sym (number-first n);
-      few = omega arith;
-      within = omega arith;
+      columns = omega arith;
+      here = here;
+      few = omega (arith, few, here);
       room = room;
       long = refl;
-      rest = ap (writtenAlong t 0) (sym (from-first n));
-      kept = refl;
+      fits = fits;
+      ahead = ahead;
     }
 
-module _ (t : Pair → ℕ) (n : ℕ) (old new : List ℤ) (i j m count : ℕ) (w : Writing t n old new i j m count) where
+-- the bits after the k + 1 lowest
+shifted : (w k x : ℕ) → bit (w / 2 ^ k / 2 ^ 1) x ≡ bit w (k + (1 + x))
+shifted w k x = ap (λ (y : ℕ). y % 2) (shr-shr (w / 2 ^ k) 1 x ∙ shr-shr w k (1 + x))
+
+number-skips : (n i j k m : ℕ) → i < j → m ≡ number n i j → m + k ≡ number n i (j + k)
+number-skips n i j k m l e = omega arith
+
+module _ (t : Pair → ℕ) (n i start : ℕ) (old new : List ℤ) (left j m count : ℕ) (w : Along t n i start old new left j m count) where
   -- the buffer keeps its length
-  pub writing-long : length new ≡ length old
-  writing-long = w .long
+  pub along-long : length new ≡ length old
+  along-long = w .long
 
-  -- where all rows are done, the clause stands at the start and the rest is as it was
-  module _ (done : n ≤ i) where
-    all-written : take count new ≡ writtenAlong t 0 (pairs n)
-    unfolding writtenAlong
-    all-written =
-        sym (append-nil (take count new)) ∙ ap (λ (ks : List Pair). take count new ++ writtenAlong t (m - 1) ks) (sym (from-none n i j done (w .rising)))
-        ∙ w .rest
+  -- where no column is left, the row is written
+  module _ (over : left ≡ 0) where
+    none-left : (x : ℕ) → x < n + 1 - j → t (pair i (j + x)) ≡ 0
+    none-left x l =
+        by-same (t (pair i (j + x))) 0 (λ e. e) (λ d. absurd (omega (arith, w .ahead .has x (omega arith) d, ap (λ (y : ℕ). bit y x) over, bit-of-zero x)))
 
-    count-whole : count ≡ length (writtenAlong t 0 (pairs n))
-    count-whole = sym (length-take-le count new (omega (arith, w .within, w .room, w .long))) ∙ ap length all-written
+    whole : w .done ≡ writtenAlong t (number n i (i + 1) - 1) (alongRow i (i + 1) (n + 1 - (i + 1)))
+    unfolding writtenAlong alongRow
+    whole =
+        let z : n + 1 - j + 0 ≡ n + 1 - j = omega arith in
+        let none = rw z at (along-skips t i j (m - 1) (n + 1 - j) 0 none-left) in
+        sym (append-nil (w .done)) ∙ ap (λ (l : List ℤ). w .done ++ l) (sym none) ∙ w .rest
 
-    pub writing-done : AtStart (writtenAlong t 0 (pairs n)) old new count
-    writing-done =
-        record {
-          counted = count-whole;
-          written = sym (take-append-drop count new) ∙ ap₂ _++_ all-written (w .kept) ∙ ap (λ (c : ℕ). writtenAlong t 0 (pairs n) ++ drop c old) count-whole;
-        }
+    pub along-done : Wrote (writtenAlong t (number n i (i + 1) - 1) (alongRow i (i + 1) (n + 1 - (i + 1)))) old start new count
+    along-done = rw whole at (w .wrote)
 
-  -- ---- a turn
+  -- the next column that is left
+  module _ (some : left ≢ 0) (k : ℕ) (is-lowest : k ≡ trailingZeros 32 left) where
+    in-row : k < n + 1 - j
+    in-row = lowest-below left (n + 1 - j) k is-lowest (w .fits) (omega (arith, w .high, w .rising)) (not-empty left some)
 
-  module _ (more : i < n) where
-    pub column-in : j ≤ n
-    column-in = w .columns more
+    pub column-in : j + k ≤ n
+    column-in = omega (arith, in-row)
 
-    number-in : m ≤ pairCount n
-    number-in = rw (w .here) (number-high n i j (w .low) (w .rising) column-in)
+    pub column-after : i < j + k
+    column-after = omega (arith, w .rising)
 
-    pub number-small : m ≤ 496
+    number-in : m + k ≤ pairCount n
+    number-in = rw (number-skips n i j k m (w .rising) (w .here)) (number-high n i (j + k) (w .low) column-after column-in)
+
+    pub number-small : m + k ≤ 496
     number-small = omega (arith, number-in, pairCount-mono n 32 (w .high))
 
-    pub number-next : m + 1 < 2 ^ 32
-    number-next = omega (arith, number-small)
+    -- nothing is past a word
+    pub lowest-small : k < 32
+    lowest-small = omega (arith, in-row, w .high, w .rising)
+
+    pub column-fits : j + k < 2 ^ 32
+    column-fits = omega (arith, column-in, w .high)
+
+    pub next-column-fits : j + k + 1 < 2 ^ 32
+    next-column-fits = omega (arith, column-in, w .high)
+
+    pub number-fits : m + k < 2 ^ 32
+    number-fits = omega (arith, number-small)
+
+    pub next-number-fits : m + k + 1 < 2 ^ 32
+    next-number-fits = omega (arith, number-small)
+
+    -- fewer columns are left
+    pub fewer-left : n + 1 - (j + k + 1) < n + 1 - j
+    fewer-left = omega (arith, column-in)
 
     pub room-left : count < length new
     room-left = omega (arith, number-in, w .few, w .room, w .long)
 
-    -- what is left grows less
-    pub left-along : j < n → (n - i) * 64 + (n + 1 - (j + 1)) < (n - i) * 64 + (n + 1 - j)
-    left-along h = omega arith
+    skipped : (x : ℕ) → x < k → t (pair i (j + x)) ≡ 0
+    skipped x l =
+        by-same (t (pair i (j + x))) 0 (λ e. e)
+        (λ d.
+        absurd
+        (lowest-least left (n + 1 - j) k is-lowest (w .fits) (omega (arith, w .high, w .rising)) some x l (w .ahead .has x (omega (arith, column-in)) d)))
 
-    pub left-row : (n - (i + 1)) * 64 + (n + 1 - (i + 1 + 1)) < (n - i) * 64 + (n + 1 - j)
-    left-row = omega (arith, w .high)
+    module _ (kind r : ℕ) (next : List ℤ) (put : Wrote (writtenFor kind (m + k)) new count next r) (is : kind ≡ t (pair i (j + k))) where
+      next-few : r < m + k + 1
+      next-few = omega (arith, w .few, put .counted, written-once kind (m + k))
 
-    module _ (kind r : ℕ) (next : List ℤ) (put : Put new count m kind next r) (is : kind ≡ t (pair i j)) where
-      front : length (take count new ++ writtenFor kind m) ≡ r
-      front =
-          length-append (take count new) (writtenFor kind m)
-          ∙ ap (λ (x : ℕ). x + length (writtenFor kind m)) (length-take-le count new (omega (arith, room-left))) ∙ sym (put .counted)
+      next-rest : w .done ++ writtenFor kind (m + k) ++ writtenAlong t (m + k + 1 - 1) (alongRow i (j + k + 1) (n + 1 - (j + k + 1)))
+          ≡ writtenAlong t (number n i (i + 1) - 1) (alongRow i (i + 1) (n + 1 - (i + 1)))
+      unfolding writtenAlong alongRow
+      next-rest =
+          let a : m + k + 1 - 1 ≡ m + k = omega arith in
+          let b : suc (m - 1 + k) ≡ m + k = omega (arith, w .few) in
+          let c : j + k + 1 ≡ suc (j + k) = omega arith in
+          let d : n + 1 - j ≡ k + suc (n + 1 - suc (j + k)) = omega (arith, column-in) in
+          let here = rw (← d, b, ← is) at (along-skips t i j (m - 1) k (suc (n + 1 - suc (j + k))) skipped) in
+          rw (a, c)
+          (append-assoc (w .done) (writtenFor kind (m + k)) (writtenAlong t (m + k) (alongRow i (suc (j + k)) (n + 1 - suc (j + k))))
+          ∙ ap (λ (l : List ℤ). w .done ++ l) (sym here) ∙ w .rest)
 
-      next-few : r < m + 1
-      next-few = omega (arith, w .few, put .counted, written-once kind m)
+      next-fits : left / 2 ^ k / 2 ^ 1 < 2 ^ (n + 1 - (j + k + 1))
+      next-fits = below-of-bits (left / 2 ^ k / 2 ^ 1) (n + 1 - (j + k + 1)) (λ x h. shifted left k x ∙ bits-past left (n + 1 - j) (k + (1 + x)) (w .fits) (omega (arith, column-in)))
 
-      next-within : r ≤ pairCount n
-      next-within = omega (arith, next-few, number-in)
-
-      next-long : length next ≡ length old
-      next-long =
-          ap length (put .written) ∙ length-append (take count new ++ writtenFor kind m) (drop (count + length (writtenFor kind m)) new)
-          ∙ omega (arith, front, length-drop (count + length (writtenFor kind m)) new, next-within, w .room, w .long)
-
-      next-kept : drop r next ≡ drop r old
-      next-kept =
-          ap (drop r) (put .written) ∙ drop-at (take count new ++ writtenFor kind m) (drop (count + length (writtenFor kind m)) new) r front
-          ∙ sym (drop-drop (length (writtenFor kind m)) count new) ∙ ap (drop (length (writtenFor kind m))) (w .kept)
-          ∙ drop-drop (length (writtenFor kind m)) count old ∙ ap (λ (x : ℕ). drop x old) (sym (put .counted))
-
-      next-rest : (ks : List Pair) → pairsFrom n i j ≡ pair i j ∷ ks → take r next ++ writtenAlong t (m + 1 - 1) ks ≡ writtenAlong t 0 (pairs n)
-      unfolding writtenAlong
-      next-rest ks e =
-          let a : m + 1 - 1 ≡ m = omega arith in
-          let b : m ≡ suc (m - 1) = omega (arith, w .few) in
-          let first : take r next ≡ take count new ++ writtenFor (t (pair i j)) m =
-          ap (take r) (put .written) ∙ take-at (take count new ++ writtenFor kind m) (drop (count + length (writtenFor kind m)) new) r front
-          ∙ ap (λ (x : ℕ). take count new ++ writtenFor x m) is in
-          ap₂ (λ (l : List ℤ) (x : ℕ). l ++ writtenAlong t x ks) first a
-          ∙ append-assoc (take count new) (writtenFor (t (pair i j)) m) (writtenAlong t m ks)
-          ∙ ap (λ (x : ℕ). take count new ++ (writtenFor (t (pair i j)) x ++ writtenAlong t x ks)) b
-          ∙ ap (λ (l : List Pair). take count new ++ writtenAlong t (m - 1) l) (sym e) ∙ w .rest
-
-      -- to the next pair of the row
-      pub writing-along : j < n → Writing t n old next i (j + 1) (m + 1) r
-      writing-along h =
-          let a : j + 1 ≡ suc j = omega arith in
-          let b : m + 1 ≡ suc m = omega arith in
+      next-ahead : Ahead t n i (j + k + 1) (left / 2 ^ k / 2 ^ 1)
+      next-ahead =
           record {
+            has = λ x h d.
+                let a : j + k + 1 + x ≡ j + (k + (1 + x)) = omega arith in
+                shifted left k x ∙ w .ahead .has (k + (1 + x)) (omega arith) (rw a at d);
+          }
+
+      pub along-turns : Along t n i start old next (left / 2 ^ k / 2 ^ 1) (j + k + 1) (m + k + 1) r
+      along-turns =
+          record {
+            done = w .done ++ writtenFor kind (m + k);
+            wrote = wrote-both (w .done) (writtenFor kind (m + k)) old new next start count r (w .wrote) put (omega (arith, w .wrote .counted, room-left, w .long));
+            rest = next-rest;
             low = w .low;
-            rows = w .rows;
             high = w .high;
-            rising = omega (arith, w .rising);
-            columns = λ l. omega arith;
-            here = rw (a, b) (ap suc (w .here) ∙ sym (number-along n i j (w .rising)));
+            rising = omega (arith, column-after);
+            columns = omega (arith, column-in);
+            here = omega (arith, number-skips n i j (k + 1) m (w .rising) (w .here));
             few = next-few;
-            within = next-within;
             room = w .room;
-            long = next-long;
-            rest = next-rest (pairsFrom n i (j + 1)) (from-along n i j column-in);
-            kept = next-kept;
+            long = wrote-long (writtenFor kind (m + k)) new next count r put (omega (arith, next-few, number-in, w .room, w .long)) ∙ w .long;
+            fits = next-fits;
+            ahead = next-ahead;
           }
 
-      -- to the first pair of the next row
-      pub writing-row : n ≤ j → Writing t n old next (i + 1) (i + 1 + 1) (m + 1) r
-      writing-row h =
-          let last : j ≡ n = omega (arith, column-in) in
-          let a : i + 1 ≡ suc i = omega arith in
-          let c : suc i + 1 ≡ suc (suc i) = omega arith in
-          let b : m + 1 ≡ suc m = omega arith in
-          record {
-            low = omega arith;
-            rows = omega arith;
-            high = w .high;
-            rising = omega arith;
-            columns = λ l. omega arith;
-            here = rw (a, c, b) (ap suc (w .here ∙ ap (number n i) last) ∙ sym (number-next-row n i (w .low) more));
-            few = next-few;
-            within = next-within;
-            room = w .room;
-            long = next-long;
-            rest = next-rest (pairsFrom n (i + 1) (i + 1 + 1))
-                (from-along n i j column-in ∙ ap {B = List Pair} (λ ks. pair i j ∷ ks) (from-row n i (j + 1) (omega arith)));
-            kept = next-kept;
-          }
+-- ---- along the rows
+
+-- before row i: what is written and what is still to come is all that is to be written
+pub record Rows (t : Pair → ℕ) (n : ℕ) (old new : List ℤ) (i count : ℕ) : Type 0 where
+  pub done : List ℤ
+  pub wrote : Wrote done old 0 new count
+  pub rest : done ++ writtenAlong t (number n i (i + 1) - 1) (fromRow i (n - i)) ≡ writtenAlong t 0 (pairs n)
+  pub low : 1 ≤ i
+  pub end : i ≤ n
+  pub few : count < number n i (i + 1)
+  pub room : pairCount n ≤ length old
+  pub long : length new ≡ length old
+
+pub rows-begin : (t : Pair → ℕ) (n : ℕ) (old : List ℤ) (row column : ℕ) → 1 ≤ row → row < column → column ≤ n → pairCount n ≤ length old → Rows t n old old 1 0
+unfolding pairs
+rows-begin t n old row column a b c room =
+    record {
+      done = [];
+      wrote = wrote-none old 0;
+      rest = rw (number-first n);
+      low = omega arith;
+      end = omega arith;
+      few = rw (number-first n) (omega arith);
+      room = room;
+      long = refl;
+    }
+
+row-number : (n i : ℕ) → 1 ≤ i → i < n → number n (i + 1) (i + 1 + 1) ≡ number n i (i + 1) + (n - i)
+row-number n i l h =
+    let a : i + 1 ≡ suc i = omega arith in
+    let b : suc i + 1 ≡ suc (suc i) = omega arith in
+    let c : suc (number n i n) ≡ number n i (suc i) + (n - i) = omega arith in
+    rw (a, b) (number-next-row n i l h ∙ c)
+
+next-start : (n i x y m : ℕ) → y ≡ x + (n - i) → m ≡ n + 1 - (i + 1) → 1 ≤ x → y - 1 ≡ x - 1 + m
+next-start n i x y m a b l = omega arith
+
+module _ (t : Pair → ℕ) (n : ℕ) (old new : List ℤ) (i count : ℕ) (w : Rows t n old new i count) where
+  pub rows-long : length new ≡ length old
+  rows-long = w .long
+
+  pub rows-done : n ≤ i → Wrote (writtenAlong t 0 (pairs n)) old 0 new count
+  unfolding fromRow writtenAlong
+  rows-done h =
+      let z : n - i ≡ 0 = omega arith in
+      rw (sym (append-nil (w .done)) ∙ (rw z at (w .rest))) at (w .wrote)
+
+  pub few-before : count < number n i (i + 1)
+  few-before = w .few
+
+  pub room-for : pairCount n ≤ length new
+  room-for = rw (w .long) (w .room)
+
+  module _ (more : i < n) (next : List ℤ) (r : ℕ)
+      (row : Wrote (writtenAlong t (number n i (i + 1) - 1) (alongRow i (i + 1) (n + 1 - (i + 1)))) new count next r) where
+    most : r ≤ count + (n - i)
+    most =
+        omega (arith, row .counted, along-most t (number n i (i + 1) - 1) (alongRow i (i + 1) (n + 1 - (i + 1))), alongRow-length i (i + 1) (n + 1 - (i + 1)))
+
+    fitting : r ≤ length new
+    fitting = omega (arith, most, w .few, number-high n i n (w .low) more (omega arith), w .room, w .long)
+
+    later : w .done ++ writtenAlong t (number n i (i + 1) - 1) (alongRow i (i + 1) (n + 1 - (i + 1))) ++ writtenAlong t (number n (i + 1) (i + 1 + 1) - 1) (fromRow (i + 1) (n - (i + 1)))
+        ≡ writtenAlong t 0 (pairs n)
+    later =
+        rw (next-start n i (number n i (i + 1)) (number n (i + 1) (i + 1 + 1)) (length (alongRow i (i + 1) (n + 1 - (i + 1)))) (row-number n i (w .low) more)
+        (alongRow-length i (i + 1) (n + 1 - (i + 1))) (number-low n i (i + 1) (omega arith)))
+        (append-assoc (w .done) (writtenAlong t (number n i (i + 1) - 1) (alongRow i (i + 1) (n + 1 - (i + 1)))) _
+        ∙ ap (λ (l : List ℤ). w .done ++ l)
+        (sym (along-both t (number n i (i + 1) - 1) (alongRow i (i + 1) (n + 1 - (i + 1))) (fromRow (i + 1) (n - (i + 1))))
+        ∙ ap (writtenAlong t (number n i (i + 1) - 1)) (sym (row-and-rest t n i more)))
+        ∙ w .rest)
+
+    pub rows-turn : Rows t n old next (i + 1) r
+    rows-turn =
+        record {
+          done = w .done ++ writtenAlong t (number n i (i + 1) - 1) (alongRow i (i + 1) (n + 1 - (i + 1)));
+          wrote = wrote-both (w .done) (writtenAlong t (number n i (i + 1) - 1) (alongRow i (i + 1) (n + 1 - (i + 1)))) old new next 0 count r (w .wrote) row (omega arith);
+          rest = later;
+          low = omega arith;
+          end = omega arith;
+          few = omega (arith, most, row-number n i (w .low) more, w .few);
+          room = w .room;
+          long = wrote-long (writtenAlong t (number n i (i + 1) - 1) (alongRow i (i + 1) (n + 1 - (i + 1)))) new next count r row fitting ∙ w .long;
+        }

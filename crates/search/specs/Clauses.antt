@@ -1,26 +1,33 @@
--- The clause as the code writes it: in one pass over the pairs, by tests on their numbers.
-use Prim.Native.Nat.{ℕ, suc, _+_}
+-- The clause as the code writes it: in one pass over the pairs, by tests on each.
+use Prim.Native.Nat.{ℕ, suc, _+_, _-_, _≤_}
 use mathlib.Core.Path.{_≡_}
+use mathlib.Core.Logic.{_≢_}
+use mathlib.Core.Bool.{Bool, true}
 use mathlib.Core.List.{List, [], _∷_, _++_}
 use lib.IntN.{ℤ}
 use lib.ListN.{length, take, drop}
-use lib.Dec.{leb, eqb}
+use lib.Dec.{leb, ltb, eqb}
 use Rattle.laws.specs.Test.{pick}
+use Rattle.laws.specs.Bit.{bit}
 use Rattle.walk.specs.Clause.{numbered}
 use Rattle.graph.specs.Graph.{entryIn}
-use Rattle.graph.specs.Pairs.{Pair, number}
-use Rattle.search.specs.Judging.{image}
+use Rattle.graph.specs.Arrangement.{at}
+use Rattle.graph.specs.Pairs.{Pair, pair}
+use Rattle.search.specs.Judging.{samePair, pairOfTwo, image}
 
--- what is written for the pair with number m and entry a, where it is the image of the pair with number source and the standing
--- pair has number s: 1 for "not" the pair, 2 for the pair, 0 for nothing
-unfoldable pub kindBy : ℕ → ℕ → ℕ → ℕ → ℕ
-kindBy a m source s =
-    pick (eqb source m) 0 (pick (eqb a 1) (pick (leb m s) 1 0) (pick (eqb a 0) (pick (leb source s) 2 0) 0))
+-- the pair k is the last one or comes before it, in row order
+unfoldable pub reached : Pair → Pair → Bool
+reached last k = pick (eqb (k .row) (last .row)) (leb (k .column) (last .column)) (ltb (k .row) (last .row))
 
--- the same at pair k of the rows, where q is the inverse of the arrangement
-unfoldable pub kindAt : List ℕ → List ℕ → List ℕ → ℕ → ℕ → Pair → ℕ
-kindAt edges unknowns q n s k =
-    kindBy (entryIn edges unknowns (k .row) (k .column)) (number n (k .row) (k .column)) (number n (image q k .row) (image q k .column)) s
+-- what is written for a pair with entry a, by whether it is its own image, is reached, and is the image of a reached one:
+-- 1 for "not" the pair, 2 for the pair, 0 for nothing
+unfoldable pub kindBy : ℕ → Bool → Bool → Bool → ℕ
+kindBy a own here source = pick own 0 (pick (eqb a 1) (pick here 1 0) (pick (eqb a 0) (pick source 2 0) 0))
+
+-- the same at pair k of the rows, where q is the inverse of the arrangement and last its standing pair
+unfoldable pub kindAt : List ℕ → List ℕ → List ℕ → Pair → Pair → ℕ
+kindAt edges unknowns q last k =
+    kindBy (entryIn edges unknowns (k .row) (k .column)) (samePair (image q k) k) (reached last k) (reached last (image q k))
 
 -- the number m as it is written for its kind
 unfoldable pub writtenFor : ℕ → ℕ → List ℤ
@@ -33,14 +40,31 @@ writtenAlong t i (k ∷ ks) =
     let rest = writtenAlong t (suc i) ks in
     writtenFor (t k) (suc i) ++ rest
 
+-- ---- which pairs of a row are looked at
+
+-- the mask has each place up to d of the arrangement p
+pub record FirstIn (d : ℕ) (p : List ℕ) (mask : ℕ) : Type 0 where
+  pub has : (i : ℕ) → 1 ≤ i → i ≤ d → bit mask (at p i - 1) ≡ 1
+
+-- the mask has each vertex of 1..n that stands at a place up to d, where q is the inverse of the arrangement
+pub record Before (n d : ℕ) (q : List ℕ) (mask : ℕ) : Type 0 where
+  pub has : (j : ℕ) → 1 ≤ j → j ≤ n → at q j ≤ d → bit mask (j - 1) ≡ 1
+
+-- the mask has each column at which row i is reached
+pub record Firsts (last : Pair) (i mask : ℕ) : Type 0 where
+  pub has : (j : ℕ) → 1 ≤ j → j ≤ 32 → reached last (pair i j) ≡ true → bit mask (j - 1) ≡ 1
+
+-- the mask has each of 1..n whose pair with a vertex that stands at u is the image of a reached one
+pub record Sources (last : Pair) (n : ℕ) (q : List ℕ) (u mask : ℕ) : Type 0 where
+  pub has : (j : ℕ) → 1 ≤ j → j ≤ n → reached last (pairOfTwo u (at q j)) ≡ true → bit mask (j - 1) ≡ 1
+
+-- the mask has each column from j on at which row i is written, column j as its lowest bit
+pub record Ahead (t : Pair → ℕ) (n i j mask : ℕ) : Type 0 where
+  pub has : (d : ℕ) → j + d ≤ n → t (pair i (j + d)) ≢ 0 → bit mask d ≡ 1
+
 -- ---- the buffer
 
--- what the kind says of m is written after the first count literals, nothing else is changed, and there are r literals then
-pub record Put (before : List ℤ) (count m kind : ℕ) (after : List ℤ) (r : ℕ) : Type 0 where
-  pub counted : r ≡ count + length (writtenFor kind m)
-  pub written : after ≡ take count before ++ writtenFor kind m ++ drop (count + length (writtenFor kind m)) before
-
--- the literals are written at the start, nothing else is changed, and they are r
-pub record AtStart (literals before after : List ℤ) (r : ℕ) : Type 0 where
-  pub counted : r ≡ length literals
-  pub written : after ≡ literals ++ drop (length literals) before
+-- the text is written after the first count literals, nothing else is changed, and there are r literals then
+pub record Wrote (text before : List ℤ) (count : ℕ) (after : List ℤ) (r : ℕ) : Type 0 where
+  pub counted : r ≡ count + length text
+  pub written : after ≡ take count before ++ text ++ drop (count + length text) before

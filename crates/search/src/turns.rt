@@ -31,7 +31,7 @@ pub fn marks_of<'a>(edges: &'a [u32; 32], unknowns: &'a [u32; 32], u: u32) -> u3
 }
 
 // Is {u, v} the pair (i, j)?
-fn is_own(i: u32, j: u32, u: u32, v: u32) -> bool
+pub fn is_own(i: u32, j: u32, u: u32, v: u32) -> bool
     ensures { λ r. ⌜ r ≡ samePair (pairOfTwo u v) (pair i j) ⌝ }
 {
     if u < v {

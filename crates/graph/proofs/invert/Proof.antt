@@ -1,6 +1,7 @@
 use borrow.Author.Needs.{needs}
 use Rattle.laws.specs.TestLaws.{refused, passed}
 use Rattle.graph.proofs.CodeAnswers.{order-most, arranged-is}
+use Rattle.graph.proofs.CodeTests.{known-reordering}
 use Rattle.graph.specs.Answers.{invertAnswer}
 use Rattle.graph.proofs.invert.Statement.{statement}
 use Rattle.graph.proofs.invert.Tie as tie
@@ -12,7 +13,7 @@ is-reordering-requires : tie.Need-is-reordering-requires
 is-reordering-requires c κs = search needs
 
 inverse-of-requires : tie.Need-inverse-of-requires
-inverse-of-requires c κs = search (order-most, needs)
+inverse-of-requires c κs = (search (order-most, needs), search (known-reordering, needs))
 
 arranged-requires : tie.Need-arranged-requires
 arranged-requires c κs = search needs

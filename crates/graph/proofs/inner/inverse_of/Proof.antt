@@ -3,27 +3,36 @@ use Prim.Native.Nat.{_-_, _≤_}
 use mathlib.Core.Path.{_≡_}
 use Rattle.graph.specs.Graph.{placed}
 use Rattle.graph.specs.Arrangement.{placeOf}
-use Rattle.graph.proofs.CodePlaces.{placed-starts, placed-turns, inverse-done}
+use Rattle.graph.proofs.CodePlaces.{inverse-starts, inverse-turns, inverse-done}
 use Rattle.graph.proofs.inner.inverse_of.Statement.{statement}
 use Rattle.graph.proofs.inner.inverse_of.Tie as tie
 
 abbrev Inv-loop : tie.InvT-loop
-Inv-loop n p out₀ i₀ out i = (i ≤ n) × (out ≡ placed (placeOf p n) i)
+Inv-loop n p out₀ i₀ out i = (i ≤ n) × (out ≡ placed (placeOf p i) n)
 
 abbrev μ-loop : tie.MeasureT-loop
 μ-loop n p out₀ i₀ out i = n - i
 
 loop-holds : tie.Need-loop-holds Inv-loop μ-loop
-loop-holds c = search (placed-starts, needs)
+loop-holds c = search (inverse-starts, needs)
+
+add-vertex-of : tie.Need-add-vertex-of Inv-loop μ-loop
+add-vertex-of c = search needs
+
+vertex-of-requires : tie.Need-vertex-of-requires Inv-loop μ-loop
+vertex-of-requires c κs = search needs
+
+sub-at : tie.Need-sub-at Inv-loop μ-loop
+sub-at c = search needs
 
 cast-at : tie.Need-cast-at Inv-loop μ-loop
 cast-at c = search needs
 
-add-place-of : tie.Need-add-place-of Inv-loop μ-loop
-add-place-of c = search needs
+add-out : tie.Need-add-out Inv-loop μ-loop
+add-out c = search needs
 
-place-of-requires : tie.Need-place-of-requires Inv-loop μ-loop
-place-of-requires c κs = search needs
+cast-out : tie.Need-cast-out Inv-loop μ-loop
+cast-out c = search needs
 
 array-write-out : tie.Need-array-write-out Inv-loop μ-loop
 array-write-out c = search needs
@@ -35,7 +44,7 @@ loop-less : tie.Need-loop-less Inv-loop μ-loop
 loop-less c = search needs
 
 loop-again : tie.Need-loop-again Inv-loop μ-loop
-loop-again c = search (placed-turns, needs)
+loop-again c = search (inverse-turns, needs)
 
 returns : tie.Need-returns Inv-loop μ-loop
 returns c = search (inverse-done, needs)
@@ -47,9 +56,12 @@ inverse-of-spec =
     Inv-loop
     μ-loop
     loop-holds
+    add-vertex-of
+    vertex-of-requires
+    sub-at
     cast-at
-    add-place-of
-    place-of-requires
+    add-out
+    cast-out
     array-write-out
     add-i
     loop-less

@@ -1,5 +1,6 @@
 use borrow.Author.Needs.{needs}
 use Rattle.search.proofs.CodeClause.{kind-is}
+use borrow.Author.Needs.{needs}
 use Rattle.search.proofs.clause.kind_at.Statement.{statement}
 use Rattle.search.proofs.clause.kind_at.Tie as tie
 
@@ -12,8 +13,14 @@ vertex-of-requires c κs = search needs
 vertex-of-requires-2 : tie.Need-vertex-of-requires-2
 vertex-of-requires-2 c κs = search needs
 
-number-of-two-requires : tie.Need-number-of-two-requires
-number-of-two-requires c κs = search needs
+is-own-requires : tie.Need-is-own-requires
+is-own-requires c κs = search needs
+
+is-reached-requires : tie.Need-is-reached-requires
+is-reached-requires c κs = search needs
+
+is-reached-of-requires : tie.Need-is-reached-of-requires
+is-reached-of-requires c κs = search needs
 
 kind-by-requires : tie.Need-kind-by-requires
 kind-by-requires c κs = search needs
@@ -28,6 +35,8 @@ kind-at-spec =
     entry-in-requires
     vertex-of-requires
     vertex-of-requires-2
-    number-of-two-requires
+    is-own-requires
+    is-reached-requires
+    is-reached-of-requires
     kind-by-requires
     returns)

@@ -1,17 +1,15 @@
 use borrow.Author.Needs.{needs}
-use Rattle.search.proofs.ClauseByKinds.{row-low, row-before, column-high, order-low, inverse-tested, clause-counted, clause-written}
+use Rattle.search.proofs.ClauseByKinds.{row-low, row-before, column-high, reorders, path-tested, clause-counted, clause-written}
 use Rattle.search.proofs.CodeSearch.{order-bounded}
+use borrow.Author.Needs.{needs}
 use Rattle.search.proofs.clause.write_clause.Statement.{statement}
 use Rattle.search.proofs.clause.write_clause.Tie as tie
 
 inverse-of-requires : tie.Need-inverse-of-requires
-inverse-of-requires c κs = search (order-bounded, needs)
-
-number-of-requires : tie.Need-number-of-requires
-number-of-requires c κs = (search (order-bounded, needs), search (row-low, needs), search (row-before, needs), search (column-high, needs))
+inverse-of-requires c κs = (search (order-bounded, needs), search (path-tested, needs))
 
 write-pairs-requires : tie.Need-write-pairs-requires
-write-pairs-requires c κs = (search (order-low, needs), search (order-bounded, needs), search (inverse-tested, needs), search needs)
+write-pairs-requires c κs = (search (order-bounded, needs), search (reorders, needs), search needs, search (row-low, needs), search (row-before, needs), search (column-high, needs), search needs)
 
 same-length : tie.Need-same-length
 same-length c = search needs
@@ -21,5 +19,4 @@ returns c = (search (clause-counted, needs), search (clause-written, needs))
 
 pub write-clause-spec : {M : Type 1} → statement M
 write-clause-spec =
-    tie.close
-    (tie.spec inverse-of-requires number-of-requires write-pairs-requires same-length returns)
+    tie.close (tie.spec inverse-of-requires write-pairs-requires same-length returns)

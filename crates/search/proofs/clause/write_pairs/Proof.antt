@@ -1,54 +1,62 @@
 use borrow.Author.Needs.{needs}
-use Rattle.search.proofs.Writing.{Writing, writing-begins, writing-long, writing-done, column-in, number-small, number-next, room-left, left-along, left-row, writing-along, writing-row}
-use Prim.Native.Nat.{_+_, _-_, _*_}
+use Prim.Native.Nat.{_-_}
+use Rattle.graph.specs.Pairs.{pair}
 use Rattle.search.specs.Clauses.{kindAt}
+use Rattle.search.proofs.ClauseMasks.{before-within, row-within, column-within, first-before, places-tested, source-known}
+use Rattle.search.proofs.Writing.{Rows, rows-begin, rows-long, rows-done, few-before, room-for, rows-turn}
 use Rattle.search.proofs.clause.write_pairs.Statement.{statement}
 use Rattle.search.proofs.clause.write_pairs.Tie as tie
 
 abbrev Inv-loop : tie.InvT-loop
-Inv-loop edges unknowns inverse n standing literals₀ i₀ j₀ m₀ count₀ literals i j m count = Writing (kindAt edges unknowns inverse n standing) n literals₀ literals i j m count
+Inv-loop edges unknowns path places n row column literals₀ before at up i₀ count₀ literals i count = Rows (kindAt edges unknowns places (pair row column)) n literals₀ literals i count
 
 abbrev μ-loop : tie.MeasureT-loop
-μ-loop edges unknowns inverse n standing literals₀ i₀ j₀ m₀ count₀ literals i j m count = (n - i) * 64 + (n + 1 - j)
+μ-loop edges unknowns path places n row column literals₀ before at up i₀ count₀ literals i count = n - i
+
+sub-first-places : tie.Need-sub-first-places Inv-loop μ-loop
+sub-first-places c = search needs
+
+first-places-requires : tie.Need-first-places-requires Inv-loop μ-loop
+first-places-requires c κs = (search needs, search (before-within, needs))
+
+first-places-requires-2 : tie.Need-first-places-requires-2 Inv-loop μ-loop
+first-places-requires-2 c κs = (search needs, search (row-within, needs))
+
+first-places-requires-3 : tie.Need-first-places-requires-3 Inv-loop μ-loop
+first-places-requires-3 c κs = (search needs, search (column-within, needs))
 
 loop-holds : tie.Need-loop-holds Inv-loop μ-loop
-loop-holds c = search (writing-begins, needs)
+loop-holds c = search (rows-begin, needs)
 
-kind-at-requires : tie.Need-kind-at-requires Inv-loop μ-loop
-kind-at-requires c κs = (search needs, search needs, search needs, search needs, search (column-in, needs), search needs)
+vertex-of-requires : tie.Need-vertex-of-requires Inv-loop μ-loop
+vertex-of-requires c κs = (search needs, search (places-tested, needs), search needs, search needs)
 
-put-requires : tie.Need-put-requires Inv-loop μ-loop
-put-requires c κs = (search (room-left, needs), search (number-small, needs))
+firsts-requires : tie.Need-firsts-requires Inv-loop μ-loop
+firsts-requires c κs = search needs
 
-add-m : tie.Need-add-m Inv-loop μ-loop
-add-m c = search (number-next, needs)
+sources-requires : tie.Need-sources-requires Inv-loop μ-loop
+sources-requires c κs = (search needs, search needs, search needs, search (first-before, needs), search (first-before, needs), search (first-before, needs))
 
-add-j : tie.Need-add-j Inv-loop μ-loop
-add-j c = search needs
+columns-of-requires : tie.Need-columns-of-requires Inv-loop μ-loop
+columns-of-requires c κs = (search needs, search needs, search needs, search needs, search (source-known, needs))
 
-loop-less : tie.Need-loop-less Inv-loop μ-loop
-loop-less c = search (left-along, needs)
-
-loop-again : tie.Need-loop-again Inv-loop μ-loop
-loop-again c = search writing-along
+write-row-requires : tie.Need-write-row-requires Inv-loop μ-loop
+write-row-requires c κs = (search needs, search (places-tested, needs), search needs, search needs, search (few-before, needs), search (room-for, needs), search needs, search needs)
 
 add-i : tie.Need-add-i Inv-loop μ-loop
 add-i c = search needs
 
-add-j-2 : tie.Need-add-j-2 Inv-loop μ-loop
-add-j-2 c = search needs
+loop-less : tie.Need-loop-less Inv-loop μ-loop
+loop-less c = search needs
 
-loop-less-2 : tie.Need-loop-less-2 Inv-loop μ-loop
-loop-less-2 c = search (left-row, needs)
-
-loop-again-2 : tie.Need-loop-again-2 Inv-loop μ-loop
-loop-again-2 c = search writing-row
+loop-again : tie.Need-loop-again Inv-loop μ-loop
+loop-again c = search rows-turn
 
 same-length : tie.Need-same-length Inv-loop μ-loop
-same-length c = search (writing-long, needs)
+same-length c = search (rows-long, needs)
 
 returns : tie.Need-returns Inv-loop μ-loop
-returns c = search (writing-done, needs)
+returns c = search (rows-done, needs)
 
 pub write-pairs-spec : {M : Type 1} → statement M
 write-pairs-spec =
@@ -56,16 +64,18 @@ write-pairs-spec =
     (tie.spec
     Inv-loop
     μ-loop
+    sub-first-places
+    first-places-requires
+    first-places-requires-2
+    first-places-requires-3
     loop-holds
-    kind-at-requires
-    put-requires
-    add-m
-    add-j
+    vertex-of-requires
+    firsts-requires
+    sources-requires
+    columns-of-requires
+    write-row-requires
+    add-i
     loop-less
     loop-again
-    add-i
-    add-j-2
-    loop-less-2
-    loop-again-2
     same-length
     returns)
