@@ -1,7 +1,7 @@
 // Judges every fully drawn graph of small orders in one block, and writes how many of each order are judged "none" and
 // how many of these are connected.
 use graph::Graph;
-use graph::inner::mark;
+use rows::entries::mark;
 use libc::STDOUT_FILENO;
 use search::Verdict;
 ghost use mathlib.Core.Path.{_≡_};

@@ -23,14 +23,15 @@ use Rattle.laws.specs.UpToLaws.{word-below, word-bit, word-same}
 use Rattle.laws.specs.Loops.{word-done}
 use Rattle.laws.specs.Num.{num}
 use Rattle.laws.specs.First.{firstUpTo, first-none, none-first, first-stop}
-use Rattle.graph.specs.Graph.{mirrored, placed, drawn}
-use Rattle.graph.specs.Stage.{above, inBothHalves}
-use Rattle.graph.specs.Pairs.{number, pairCount}
-use Rattle.graph.proofs.CodePlaces.{placed-turns, placed-done}
-use Rattle.graph.proofs.Halves.{above-there, above-elsewhere, above-small, both-halves}
-use Rattle.graph.proofs.Mirrored.{mirrored-above, mirrored-below, mirrored-loop}
-use Rattle.graph.proofs.PairLaws.{number-high, number-rows, number-end}
-use Rattle.graph.proofs.Placed.{placed-same}
+use Rattle.rows.specs.Rows.{mirrored, placed}
+use Rattle.graph.specs.Graph.{drawn}
+use Rattle.rows.specs.Stage.{above, inBothHalves}
+use Rattle.pairs.specs.Pairs.{number, pairCount}
+use Rattle.rows.proofs.Filled.{placed-turns, placed-done}
+use Rattle.rows.proofs.Halves.{above-there, above-elsewhere, above-small, both-halves}
+use Rattle.rows.proofs.Mirrored.{mirrored-above, mirrored-below, mirrored-loop}
+use Rattle.pairs.proofs.PairLaws.{number-high, number-rows, number-end}
+use Rattle.rows.proofs.Placed.{placed-same}
 use Rattle.record.specs.Layout.{entryPlace, cell}
 use Rattle.record.specs.Reading.{bitOf, orderIn, startsIn, numberedIn, entryIn, isRefused, refusedIn, graphIn}
 use Rattle.record.specs.Marks.{markIn, lineIn, linesIn, IsLine, Whole, Scanned}

@@ -10,9 +10,10 @@ use lib.Dec.{lit<}
 use Rattle.laws.specs.UpTo.{listUpTo}
 use Rattle.laws.specs.Num.{num, num-of-zeros}
 use Rattle.graph.specs.declared.Graph.{Graph}
-use Rattle.graph.specs.Graph.{startAt, entryIn}
-use Rattle.graph.specs.Pairs.{Pair, pairCount, number, pairOf, entryAt}
-use Rattle.graph.proofs.PairLaws.{number-first, number-along, number-next-row, number-low, number-high, pairOf-number}
+use Rattle.rows.specs.Rows.{startAt, entryIn}
+use Rattle.pairs.specs.Pairs.{Pair, pairCount, number, pairOf}
+use Rattle.graph.specs.Counts.{entryAt}
+use Rattle.pairs.proofs.PairLaws.{number-first, number-along, number-next-row, number-low, number-high, pairOf-number}
 use Rattle.record.specs.Layout.{startPlace, entryPlace, bitCount, byteCount, begin, cell}
 use Rattle.record.specs.Reading.{orderIn, numberedIn}
 use Rattle.record.specs.Writing.{recordBit, recordByte, recordOf}

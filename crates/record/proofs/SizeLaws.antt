@@ -9,9 +9,9 @@ use mir.Val.{Fits}
 use mir.Syntax.{w32}
 use Rattle.laws.specs.Test.{both, unless}
 use Rattle.graph.specs.WellFormed.{orderFits}
-use Rattle.graph.specs.Pairs.{pairCount}
+use Rattle.pairs.specs.Pairs.{pairCount}
 use Rattle.graph.proofs.Formed.{order-in-range}
-use Rattle.graph.proofs.PairLaws.{pairCount-suc}
+use Rattle.pairs.proofs.PairLaws.{pairCount-suc}
 use Rattle.record.specs.declared.Extent.{Extent}
 use Rattle.record.specs.Layout.{cell, bitCount, byteCount}
 use Rattle.record.specs.Answers.{extent, sizeAnswer}

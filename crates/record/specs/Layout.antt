@@ -1,7 +1,7 @@
 -- Where each part of the record of a graph of order n stands. Places are counted in bits from 0, and each part has its most significant bit first.
 -- The order comes first, in 6 bits. Reading and writing both go by these places.
 use Prim.Native.Nat.{ℕ, _+_, _-_, _*_, _/_}
-use Rattle.graph.specs.Pairs.{pairCount, number}
+use Rattle.pairs.specs.Pairs.{pairCount, number}
 
 -- vertex v, from 2 on, has one bit: 1 if it starts a block
 abbrev pub startPlace : ℕ → ℕ

@@ -3,9 +3,9 @@ use Prim.Native.Nat.{ℕ, _+_}
 use mathlib.Core.Path.{_≡_}
 use mathlib.Core.List.{List}
 use Rattle.laws.specs.UpTo.{wordUpTo}
-use Rattle.graph.specs.Graph.{placed}
-use Rattle.graph.specs.Stage.{above}
-use Rattle.graph.specs.Pairs.{number}
+use Rattle.rows.specs.Rows.{placed}
+use Rattle.rows.specs.Stage.{above}
+use Rattle.pairs.specs.Pairs.{number}
 use Rattle.record.specs.Layout.{entryPlace}
 use Rattle.record.specs.Reading.{refusedIn}
 use Rattle.record.specs.declared.reading.Line.{Line}

@@ -1,7 +1,7 @@
 // Where the parts of a record stand and how long it is, for an order in range.
 ghost use mathlib.Core.Path.{_≡_};
 ghost use Prim.Native.Nat.{_+_, _*_, _≤_, _<_};
-ghost use Rattle.graph.specs.Pairs.{pairCount, number};
+ghost use Rattle.pairs.specs.Pairs.{pairCount, number};
 ghost use Rattle.record.specs.Layout.{cell, bitCount, byteCount};
 
 // The product of two small numbers.

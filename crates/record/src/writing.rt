@@ -3,7 +3,7 @@ ghost use mathlib.Core.Path.{_≡_};
 ghost use mathlib.Core.List.{_++_};
 ghost use Prim.Native.Nat.{_+_, _-_, _*_, _≤_, _<_};
 ghost use lib.ListN.{length, drop};
-ghost use Rattle.graph.specs.Graph.{startAt};
+ghost use Rattle.rows.specs.Rows.{startAt};
 ghost use Rattle.laws.specs.Bit.{bit};
 ghost use Rattle.record.specs.Layout.{bitCount, byteCount, begin, cell};
 ghost use Rattle.record.specs.Writing.{recordOf};

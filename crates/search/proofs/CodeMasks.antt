@@ -15,11 +15,11 @@ use Rattle.laws.specs.Compared.{by-same}
 use Rattle.laws.specs.UpTo.{wordUpTo}
 use Rattle.laws.specs.UpToLaws.{word-same}
 use Rattle.laws.specs.Loops.{word-turns, word-done, sum-turns}
-use Rattle.graph.specs.Graph.{blockOf, startAt, placed}
-use Rattle.graph.specs.Arrangement.{at}
-use Rattle.graph.proofs.CodeTests.{shifted}
-use Rattle.graph.proofs.CodePlaces.{placed-turns}
-use Rattle.graph.proofs.Placed.{placed-at}
+use Rattle.rows.specs.Rows.{blockOf, startAt, placed}
+use Rattle.arrangements.specs.Arrangement.{at}
+use Rattle.rows.proofs.CodeWords.{shifted}
+use Rattle.rows.proofs.Filled.{placed-turns}
+use Rattle.rows.proofs.Placed.{placed-at}
 use Rattle.search.specs.Masks.{sameBlock, blockMask}
 
 pub power-is : (k : ℕ) → k < 32 → 1 * 2 ^ k % 2 ^ 32 ≡ 2 ^ k

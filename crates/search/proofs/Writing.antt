@@ -17,8 +17,8 @@ use Rattle.laws.specs.BitLaws.{bit-of-zero, bits-past, below-of-bits}
 use Rattle.laws.specs.Chosen.{Ascending, is-chosen, chosen-ascend}
 use Rattle.laws.specs.Masks.{marked, members, is-marked, not-empty, lowest-below, lowest-first}
 use Rattle.walk.specs.Clause.{numbered}
-use Rattle.graph.specs.Pairs.{Pair, pair, alongRow, fromRow, pairs, pairCount, number}
-use Rattle.graph.proofs.PairLaws.{pairCount-mono, number-first, number-next-row, number-low, number-high, alongRow-length}
+use Rattle.pairs.specs.Pairs.{Pair, pair, alongRow, fromRow, pairs, pairCount, number}
+use Rattle.pairs.proofs.PairLaws.{pairCount-mono, number-first, number-next-row, number-low, number-high, alongRow-length}
 use Rattle.search.specs.Clauses.{writtenFor, writtenAlong, Ahead, Wrote}
 use Rattle.search.proofs.CodeTurns.{row-and-rest}
 

@@ -3,10 +3,10 @@ ghost use mathlib.Core.Path.{_≡_};
 ghost use Prim.Native.Nat.{_+_, _-_, _^_, _≤_, _<_};
 ghost use lib.Bits.{bitAnd};
 ghost use lib.Count.{trailingZeros};
-ghost use Rattle.graph.specs.Graph.{blockOf, startAt, placed};
-ghost use Rattle.graph.specs.Arrangement.{at};
+ghost use Rattle.rows.specs.Rows.{blockOf, startAt, placed};
+ghost use Rattle.arrangements.specs.Arrangement.{at};
 ghost use Rattle.search.specs.Masks.{sameBlock, blockMask};
-use graph::inner::weight;
+use rows::words::weight;
 
 // The place of the lowest bit of a mask.
 pub fn lowest(mask: u32) -> u32

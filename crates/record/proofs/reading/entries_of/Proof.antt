@@ -2,8 +2,8 @@
 use Prim.Native.Nat.{_+_, _-_, _≤_}
 use mathlib.Core.Path.{_≡_}
 use borrow.Author.Needs.{needs}
-use Rattle.graph.specs.Graph.{placed}
-use Rattle.graph.proofs.CodePlaces.{placed-starts, placed-turns}
+use Rattle.rows.specs.Rows.{placed}
+use Rattle.rows.proofs.Filled.{placed-starts, placed-turns}
 use Rattle.record.specs.Reading.{bitOf}
 use Rattle.record.specs.Marks.{lineIn}
 use Rattle.record.proofs.LineLaws.{NoneBefore, none-starts, none-more, refused-low, refused-high, refused-fits, scanned-none, scanned-some}

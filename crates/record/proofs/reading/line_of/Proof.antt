@@ -5,7 +5,7 @@ use lib.Pow.{pow-pos}
 use borrow.Author.Needs.{needs}
 use Rattle.laws.specs.Loops.{word-fits, word-grows}
 use Rattle.laws.specs.UpTo.{wordUpTo}
-use Rattle.graph.specs.Stage.{above}
+use Rattle.rows.specs.Stage.{above}
 use Rattle.record.specs.Layout.{cell}
 use Rattle.record.specs.Reading.{bitOf}
 use Rattle.record.specs.Marks.{markIn}

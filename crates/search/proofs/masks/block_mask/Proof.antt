@@ -3,7 +3,7 @@ use Prim.Native.Nat.{_-_, _≤_, _<_, _^_}
 use mathlib.Core.Path.{_≡_}
 use Rattle.laws.specs.UpTo.{wordUpTo}
 use Rattle.laws.specs.Loops.{word-starts, word-grows, word-fits}
-use Rattle.graph.specs.Arrangement.{at}
+use Rattle.arrangements.specs.Arrangement.{at}
 use Rattle.search.specs.Masks.{sameBlock}
 use Rattle.search.proofs.CodeMasks.{mask-more, mask-done}
 use Rattle.search.proofs.masks.block_mask.Statement.{statement}

@@ -1,9 +1,9 @@
 use borrow.Author.Needs.{needs}
 use Prim.Native.Nat.{_-_, _≤_}
 use mathlib.Core.Path.{_≡_}
-use Rattle.graph.specs.Graph.{blockOf, placed}
-use Rattle.graph.specs.Arrangement.{at}
-use Rattle.graph.proofs.CodePlaces.{placed-starts, placed-done}
+use Rattle.rows.specs.Rows.{blockOf, placed}
+use Rattle.arrangements.specs.Arrangement.{at}
+use Rattle.rows.proofs.Filled.{placed-starts, placed-done}
 use Rattle.search.specs.Masks.{blockMask}
 use Rattle.search.proofs.CodeMasks.{mask-first, masks-more}
 use Rattle.search.proofs.masks.block_masks.Statement.{statement}

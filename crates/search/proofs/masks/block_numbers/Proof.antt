@@ -1,8 +1,8 @@
 use borrow.Author.Needs.{needs}
 use Prim.Native.Nat.{_-_, _≤_}
 use mathlib.Core.Path.{_≡_}
-use Rattle.graph.specs.Graph.{blockOf, placed}
-use Rattle.graph.proofs.CodePlaces.{placed-starts, placed-done}
+use Rattle.rows.specs.Rows.{blockOf, placed}
+use Rattle.rows.proofs.Filled.{placed-starts, placed-done}
 use Rattle.laws.specs.Loops.{sum-starts}
 use Rattle.search.proofs.CodeMasks.{numbers-more, block-more}
 use Rattle.search.proofs.masks.block_numbers.Statement.{statement}

@@ -1,0 +1,182 @@
+-- The rows stand beside their transposed rows exactly where every row fits.
+use Prim.Native.Nat.{ℕ, zero, suc, _+_, _-_, _*_, _/_, _%_, _^_, _≤_, _<_, min, max}
+use native.Mathlib.Omega.{arith}
+use native.Mathlib.Nat.{mod-lt, lt-of-lt-of-le, lt-of-le-of-lt}
+use mathlib.Core.Path.{_≡_, refl, sym, ap, _∙_}
+use mathlib.Core.Bool.{Bool, true, false}
+use mathlib.Core.List.{List}
+use lib.ListN.{getD}
+use lib.Dec.{leb, lit<}
+use lib.Pow.{pow-pos, pow-mono}
+use lib.Bits.{bitAnd, bitOr, and-le-r, or-lt, or-add-and}
+use borrow.Author.Tests.{ltb-true, leb-true, eqb-true, lt-ltb, le-leb, eq-eqb}
+use Rattle.laws.specs.Compared.{by-below, by-order, by-same}
+use Rattle.laws.specs.Test.{both, pick}
+use Rattle.laws.specs.TestLaws.{both-first, both-second, both-hold, same-test}
+use Rattle.laws.specs.UpTo.{allUpTo}
+use Rattle.laws.specs.UpToLaws.{all-at, all-hold}
+use Rattle.laws.specs.Bit.{bit}
+use Rattle.laws.specs.BitLaws.{bit-of-and, bit-of-or, bit-of-zero, bits-past, same-word, same-number}
+use Rattle.rows.specs.Rows.{row, entryIn, placed}
+use Rattle.rows.specs.Fits.{pairFits, rowFits}
+use Rattle.rows.specs.Stage.{lower, upper, staged, transposed}
+use Rattle.rows.specs.Standing.{stands, rowStands}
+use Rattle.rows.proofs.StageLaws.{Halves}
+use Rattle.rows.proofs.Transposing.{at-even, at-odd, halves-1, transposed-bit}
+
+-- ---- the transposed rows
+
+lower-below : (s m a b : ℕ) → m < 2 ^ 32 → lower s m a b < 2 ^ 32
+unfolding lower
+lower-below s m a b l =
+    or-lt 32 (bitAnd a m) (bitAnd b m * 2 ^ s % 2 ^ 32) (lt-of-le-of-lt (and-le-r a m) l) (mod-lt (bitAnd b m * 2 ^ s) (pow-pos 32))
+
+upper-below : (s m c a b : ℕ) → m < 2 ^ 32 → c < 2 ^ 32 → upper s m c a b < 2 ^ 32
+unfolding upper
+upper-below s m c a b l h =
+    or-lt 32 (bitAnd (a / 2 ^ s) m) (bitAnd b c) (lt-of-le-of-lt (and-le-r (a / 2 ^ s) m) l) (lt-of-le-of-lt (and-le-r b c) h)
+
+-- a row after a stage has 32 bits
+stage-below : (s m c : ℕ) → Halves s m c → (rows : List ℕ) (i : ℕ) → m < 2 ^ 32 → c < 2 ^ 32 → i < 32 → getD (placed (staged s m c rows) 32) i 0 < 2 ^ 32
+stage-below s m c h rows i lm lc l =
+    by-same (i % 2) 0
+    (λ p. rw (at-even s m c h rows i l p) (lower-below s m (getD rows (i / 2) 0) (getD rows (i / 2 + 16) 0) lm))
+    (λ p. rw (at-odd s m c h rows i l (omega arith)) (upper-below s m c (getD rows (i / 2) 0) (getD rows (i / 2 + 16) 0) lm lc))
+
+-- so has a transposed row
+pub transposed-below : (rows : List ℕ) (i : ℕ) → i < 32 → getD (transposed rows) i 0 < 2 ^ 32
+unfolding transposed
+transposed-below rows i l = stage-below 1 1431655765 2863311530 halves-1 _ i (lit< tt) (lit< tt) l
+
+-- bit j of the transposed row of vertex i is bit i of the row of vertex j
+pub turned : (rows : List ℕ) (i j : ℕ) → 1 ≤ i → i ≤ 32 → 1 ≤ j → j ≤ 32 → bit (row (transposed rows) i) (j - 1) ≡ bit (row rows j) (i - 1)
+turned rows i j li hi lj hj = transposed-bit rows (i - 1) (j - 1) (omega arith) (omega arith)
+
+-- ---- what the parts of the test say
+
+module _ (order : ℕ) (e u : List ℕ) (h : order ≤ 32) where
+  abbrev width : ℕ → ℕ
+  width i = pick (leb i order) order 0
+
+  width-small : (i : ℕ) → width i ≤ 32
+  unfolding pick
+  width-small i = by-test (leb i order)
+    where
+      by-test : (t : Bool) → pick t order 0 ≤ 32
+      by-test true = h
+      by-test false = omega arith
+
+  abbrev standing : ℕ → Bool
+  standing = rowStands order e u (transposed e) (transposed u)
+
+  -- ---- rows that stand fit
+
+  module _ (t : allUpTo standing 32 ≡ true) where
+    parts : (i : ℕ) → 1 ≤ i → i ≤ 32 → (row e i ≡ row (transposed e) i) × (row u i ≡ row (transposed u) i) × (bitAnd (row e i) (row u i) ≡ 0)
+        × (bit (bitOr (row e i) (row u i)) (i - 1) ≡ 0) × (bitOr (row e i) (row u i) < 2 ^ width i)
+    unfolding rowStands stands
+    parts i l m =
+        let a = all-at standing 32 t i l m in
+        let b = both-second _ _ a in
+        let c = both-second _ _ b in
+        let d = both-second _ _ c in (
+          eqb-true (row e i) (row (transposed e) i) (both-first _ _ a),
+          eqb-true (row u i) (row (transposed u) i) (both-first _ _ b),
+          eqb-true (bitAnd (row e i) (row u i)) 0 (both-first _ _ c),
+          eqb-true (bit (bitOr (row e i) (row u i)) (i - 1)) 0 (both-first _ _ d),
+          ltb-true (bitOr (row e i) (row u i)) (2 ^ width i) (both-second _ _ d),
+        )
+
+    mirrored : (i j : ℕ) → 1 ≤ i → i ≤ 32 → 1 ≤ j → j ≤ 32 → entryIn e u i j ≡ entryIn e u j i
+    mirrored i j li hi lj hj =
+        let p = parts i li hi in
+        let x : bit (row e i) (j - 1) ≡ bit (row e j) (i - 1) = ap (λ (w : ℕ). bit w (j - 1)) (p .0) ∙ turned e i j li hi lj hj in
+        let y : bit (row u i) (j - 1) ≡ bit (row u j) (i - 1) = ap (λ (w : ℕ). bit w (j - 1)) (p .1) ∙ turned u i j li hi lj hj in
+        rw (x, y)
+
+    small : (i j : ℕ) → 1 ≤ i → i ≤ 32 → entryIn e u i j ≤ 2
+    small i j li hi =
+        let z : bit (bitAnd (row e i) (row u i)) (j - 1) ≡ 0 = ap (λ (w : ℕ). bit w (j - 1)) (parts i li hi .2) ∙ bit-of-zero (j - 1) in
+        omega (arith, z, bit-of-and (row e i) (row u i) (j - 1))
+
+    pub standing-fits : (i : ℕ) → 1 ≤ i → i ≤ 32 → rowFits order e u i ≡ true
+    unfolding rowFits pairFits
+    standing-fits i li hi =
+        let p = parts i li hi in
+        let sum = or-add-and (row e i) (row u i) in
+        both-hold _ _ (lt-ltb (row e i) (2 ^ width i) (omega (arith, p .4, sum, and-le-r (row e i) (row u i))))
+        (both-hold _ _ (lt-ltb (row u i) (2 ^ width i) (omega (arith, p .4, sum, p .2)))
+        (both-hold _ _ (eq-eqb (entryIn e u i i) 0 (omega (arith, p .3, bit-of-or (row e i) (row u i) (i - 1))))
+        (all-hold (pairFits e u i) (i - 1)
+        (λ j lj hj. both-hold _ _ (eq-eqb (entryIn e u i j) (entryIn e u j i) (mirrored i j li hi lj (omega arith))) (le-leb (entryIn e u i j) 2 (small i j li hi))))))
+
+  -- ---- rows that fit stand
+
+  module _ (t : allUpTo (rowFits order e u) 32 ≡ true) where
+    fit : (i : ℕ) → 1 ≤ i → i ≤ 32 → (row e i < 2 ^ width i) × (row u i < 2 ^ width i) × (entryIn e u i i ≡ 0) × (allUpTo (pairFits e u i) (i - 1) ≡ true)
+    unfolding rowFits
+    fit i l m =
+        let a = all-at (rowFits order e u) 32 t i l m in
+        let b = both-second _ _ a in
+        let c = both-second _ _ b in (
+          ltb-true (row e i) (2 ^ width i) (both-first _ _ a),
+          ltb-true (row u i) (2 ^ width i) (both-first _ _ b),
+          eqb-true (entryIn e u i i) 0 (both-first _ _ c),
+          both-second _ _ c,
+        )
+
+    before : (i j : ℕ) → i ≤ 32 → 1 ≤ j → j < i → (entryIn e u i j ≡ entryIn e u j i) × (entryIn e u i j ≤ 2)
+    unfolding pairFits
+    before i j hi lj l =
+        let p = all-at (pairFits e u i) (i - 1) (fit i (omega arith) hi .3) j lj (omega arith) in
+        (eqb-true (entryIn e u i j) (entryIn e u j i) (both-first _ _ p), leb-true (entryIn e u i j) 2 (both-second _ _ p))
+
+    pair : (i j : ℕ) → 1 ≤ i → i ≤ 32 → 1 ≤ j → j ≤ 32 → (entryIn e u i j ≡ entryIn e u j i) × (entryIn e u i j ≤ 2)
+    pair i j li hi lj hj =
+        by-order i j (λ l. let p = before j i hj li l in (sym (p .0), omega (arith, p .0, p .1)))
+        (λ q. rw q (refl, omega (arith, fit j lj hj .2))) (λ l. before i j hi lj l)
+
+    wide : (w i : ℕ) → w < 2 ^ width i → w < 2 ^ 32
+    wide w i l = lt-of-lt-of-le l (pow-mono (width-small i))
+
+    pub fits-standing : (i : ℕ) → 1 ≤ i → i ≤ 32 → standing i ≡ true
+    unfolding rowStands stands
+    fits-standing i li hi =
+        let f = fit i li hi in
+        both-hold _ _ (eq-eqb (row e i) (row (transposed e) i) edges)
+        (both-hold _ _ (eq-eqb (row u i) (row (transposed u) i) unknowns)
+        (both-hold _ _ (eq-eqb (bitAnd (row e i) (row u i)) 0 apart)
+        (both-hold _ _ (eq-eqb (bit (bitOr (row e i) (row u i)) (i - 1)) 0 (omega (arith, f .2, bit-of-or (row e i) (row u i) (i - 1))))
+        (lt-ltb (bitOr (row e i) (row u i)) (2 ^ width i) (or-lt (width i) (row e i) (row u i) (f .0) (f .1))))))
+      where
+        edges : row e i ≡ row (transposed e) i
+        edges =
+            same-word 32 (row e i) (row (transposed e) i) (wide (row e i) i (fit i li hi .0)) (transposed-below e (i - 1) (omega arith))
+            (λ j lj hj. omega (arith, turned e i j li hi lj hj, pair i j li hi lj hj .0))
+
+        unknowns : row u i ≡ row (transposed u) i
+        unknowns =
+            same-word 32 (row u i) (row (transposed u) i) (wide (row u i) i (fit i li hi .1)) (transposed-below u (i - 1) (omega arith))
+            (λ j lj hj. omega (arith, turned u i j li hi lj hj, pair i j li hi lj hj .0))
+
+        apart : bitAnd (row e i) (row u i) ≡ 0
+        apart =
+            same-number (bitAnd (row e i) (row u i)) 0
+            (λ k. bit-of-and (row e i) (row u i) k
+            ∙ by-below k 32
+            (λ l. let place : suc k - 1 ≡ k = omega arith in
+            let p : entryIn e u i (suc k) ≤ 2 = pair i (suc k) li hi (omega arith) (omega arith) .1 in
+            let q : bit (row e i) k + 2 * bit (row u i) k ≤ 2 = rw place at p in
+            omega (arith, q, bit-of-zero k))
+            (λ l. omega (arith, bits-past (row e i) 32 k (wide (row e i) i (fit i li hi .0)) l, bit-of-zero k)))
+
+  -- the rows stand exactly where every row fits
+  pub stand-is-fit : allUpTo standing 32 ≡ allUpTo (rowFits order e u) 32
+  stand-is-fit =
+      same-test (allUpTo standing 32) (allUpTo (rowFits order e u) 32)
+      (λ t. all-hold (rowFits order e u) 32 (standing-fits t)) (λ t. all-hold standing 32 (fits-standing t))
+
+-- what the code answers
+pub rows-stand-is : (order : ℕ) (e u f v : List ℕ) (r : Bool) → order ≤ 32 → f ≡ transposed e → v ≡ transposed u → r ≡ allUpTo (rowStands order e u f v) 32
+    → r ≡ allUpTo (rowFits order e u) 32
+rows-stand-is order e u f v r h p q s = s ∙ rw (p, q) (stand-is-fit order e u h)
