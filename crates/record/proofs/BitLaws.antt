@@ -6,8 +6,8 @@ use native.Mathlib.Nat.{lt-of-lt-of-le, le-antisymm, zero-div, mod-lt}
 use native.Mathlib.Numerals.{add-one}
 use native.Mathlib.Omega.{arith}
 use lib.ListN.{length, getD, List·getD-eq-default}
-use lib.Pow.{pow-mono, pow-pos, split, shr-shr}
-use Rattle.laws.specs.BitLaws.{bit-of-low}
+use lib.Pow.{pow-mono, pow-pos, shr-shr}
+use Rattle.laws.specs.BitLaws.{bit-of-rest}
 use Rattle.laws.specs.Num.{num, num-below, num-own}
 use Rattle.record.specs.Reading.{bitOf}
 
@@ -42,10 +42,6 @@ bit-past s place ahead h =
     sym (ap (λ (x : ℕ). x % 2) (zero-div (2 ^ (7 - (place % 8 + ahead) % 8)))) ∙ bit-there s place ahead 0 (sym z)
 
 -- ---- bits of one byte
-
--- a lower bit of a number is one of its remainder
-bit-of-rest : (x w k : ℕ) → k < w → x % 2 ^ w / 2 ^ k % 2 ≡ x / 2 ^ k % 2
-bit-of-rest x w k h = sym (bit-of-low k w (x / 2 ^ w) (x % 2 ^ w) h) ∙ ap (λ (y : ℕ). y / 2 ^ k % 2) (split x w)
 
 -- the last w bits of byte k
 pub last-bits : (s : List ℕ) (k a w x : ℕ) → a + w ≡ 8 * k + 8 → w ≤ 7 → x ≡ getD s k 0 → num (bitOf s) a w ≡ x % 2 ^ w

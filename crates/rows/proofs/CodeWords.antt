@@ -7,7 +7,7 @@ use mathlib.Core.List.{List}
 use lib.Count.{ones, ones-le}
 use lib.Dec.{lit<}
 use lib.ListN.{getD, set}
-use lib.Pow.{shl-exact}
+use lib.Pow.{shl-exact, pow-pos}
 use mir.Syntax.{w32}
 use mir.Val.{Fits}
 use Rattle.laws.specs.Bit.{withBit}
@@ -17,6 +17,13 @@ use Rattle.rows.specs.Rows.{row, withMark, onesAt}
 -- 1 << k is 2 ^ k where that fits 64 bits
 pub shifted-one : (k : ℕ) → k ≤ 32 → 1 * 2 ^ k % 2 ^ 64 ≡ 2 ^ k
 shifted-one k l = shl-exact 1 k 64 (lit< tt) (omega arith) ∙ one-mul (2 ^ k)
+
+-- 1 << k is 2 ^ k where that fits 32 bits
+pub shifted-word : (k : ℕ) → k < 32 → 1 * 2 ^ k % 2 ^ 32 ≡ 2 ^ k
+shifted-word k l = shl-exact 1 k 32 (lit< tt) (omega arith) ∙ one-mul (2 ^ k)
+
+pub shifted-some : (k : ℕ) → k < 32 → 1 ≤ 1 * 2 ^ k % 2 ^ 32
+shifted-some k l = rw (shifted-word k l) (pow-pos k)
 
 pub shifted : (b k : ℕ) → b ≤ 1 → k < 32 → b * 2 ^ k % 2 ^ 32 ≡ b * 2 ^ k
 shifted b k l h = shl-exact 1 k 32 (omega arith) (omega arith)

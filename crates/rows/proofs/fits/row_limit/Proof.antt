@@ -3,8 +3,8 @@ use Rattle.rows.proofs.CodeFits.{limit-inside, limit-past}
 use Rattle.rows.proofs.fits.row_limit.Statement.{statement}
 use Rattle.rows.proofs.fits.row_limit.Tie as tie
 
-power-requires : tie.Need-power-requires
-power-requires c κs = search needs
+limit-of-requires : tie.Need-limit-of-requires
+limit-of-requires c κs = search needs
 
 returns : tie.Need-returns
 returns c = search (limit-inside, needs)
@@ -13,4 +13,4 @@ returns-2 : tie.Need-returns-2
 returns-2 c = search (limit-past, needs)
 
 pub row-limit-spec : {M : Type 1} → statement M
-row-limit-spec = tie.close (tie.spec power-requires returns returns-2)
+row-limit-spec = tie.close (tie.spec limit-of-requires returns returns-2)

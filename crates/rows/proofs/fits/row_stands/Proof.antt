@@ -30,12 +30,6 @@ mul-words-stand-3 c = search needs
 element-copy-out-words-stand-3 : tie.Need-element-copy-out-words-stand-3
 element-copy-out-words-stand-3 c = search needs
 
-mul-words-stand-4 : tie.Need-mul-words-stand-4
-mul-words-stand-4 c = search needs
-
-element-copy-out-words-stand-4 : tie.Need-element-copy-out-words-stand-4
-element-copy-out-words-stand-4 c = search needs
-
 sub-words-stand : tie.Need-sub-words-stand
 sub-words-stand c = search needs
 
@@ -58,8 +52,6 @@ row-stands-spec =
     element-copy-out-words-stand-2
     mul-words-stand-3
     element-copy-out-words-stand-3
-    mul-words-stand-4
-    element-copy-out-words-stand-4
     sub-words-stand
     words-stand-requires
     returns)

@@ -3,11 +3,11 @@ use Rattle.rows.proofs.Standing.{rows-stand-is}
 use Rattle.rows.proofs.fits.rows_fit.Statement.{statement}
 use Rattle.rows.proofs.fits.rows_fit.Tie as tie
 
+mixed-rows-requires : tie.Need-mixed-rows-requires
+mixed-rows-requires c κs = search needs
+
 transposed-of-requires : tie.Need-transposed-of-requires
 transposed-of-requires c κs = search needs
-
-transposed-of-requires-2 : tie.Need-transposed-of-requires-2
-transposed-of-requires-2 c κs = search needs
 
 rows-stand-requires : tie.Need-rows-stand-requires
 rows-stand-requires c κs = search needs
@@ -17,5 +17,4 @@ returns c = search (rows-stand-is, needs)
 
 pub rows-fit-spec : {M : Type 1} → statement M
 rows-fit-spec =
-    tie.close
-    (tie.spec transposed-of-requires transposed-of-requires-2 rows-stand-requires returns)
+    tie.close (tie.spec mixed-rows-requires transposed-of-requires rows-stand-requires returns)

@@ -9,10 +9,10 @@ use Rattle.rows.proofs.fits.rows_stand.Statement.{statement}
 use Rattle.rows.proofs.fits.rows_stand.Tie as tie
 
 abbrev Inv-loop : tie.InvT-loop
-Inv-loop order edges unknowns columns others i₀ i = (i ≤ 32) × (allUpTo (rowStands order edges unknowns columns others) i ≡ true)
+Inv-loop order edges unknowns columns i₀ i = (i ≤ 32) × (allUpTo (rowStands order edges unknowns columns) i ≡ true)
 
 abbrev μ-loop : tie.MeasureT-loop
-μ-loop order edges unknowns columns others i₀ i = 32 - i
+μ-loop order edges unknowns columns i₀ i = 32 - i
 
 loop-holds : tie.Need-loop-holds Inv-loop μ-loop
 loop-holds c = search (all-starts, needs)
