@@ -18,9 +18,10 @@ use Rattle.pairs.proofs.PairLaws.{Between, pairs-given, pairCount-mono}
 use Rattle.record.specs.declared.Extent.{Extent}
 use Rattle.record.specs.declared.Written.{Written}
 use Rattle.record.specs.Layout.{byteCount}
-use Rattle.record.specs.Reading.{bitOf, orderIn, refusedIn, padIn}
+use Rattle.fields.specs.Bits.{bitOf}
+use Rattle.record.specs.Reading.{orderIn, refusedIn, padIn}
 use Rattle.record.specs.Answers.{extent, recordIn, recordAt, readAnswer, written, writeAnswer}
-use Rattle.record.proofs.BitLaws.{bit-small}
+use Rattle.fields.proofs.BitLaws.{bit-small}
 use Rattle.record.proofs.Refused.{first-refused}
 use Rattle.record.proofs.SizeLaws.{bytes-high}
 use Rattle.walk.specs.Words.{StandsIn}

@@ -1,10 +1,10 @@
 -- Numbers held in bits: a function gives the bit at each place, and the bits of a number stand most significant first.
 use Prim.Native.Nat.{ℕ, zero, suc, _+_, _-_, _*_, _/_, _%_, _^_, _<_}
-use mathlib.Core.Path.{_≡_, refl, sym}
+use mathlib.Core.Path.{_≡_, refl, sym, ap}
 use mathlib.Core.Logic.{⊎-elim}
-use native.Mathlib.Nat.{eq-or-lt-of-le, le-of-suc-le-suc, not-suc-le-zero}
+use native.Mathlib.Nat.{eq-or-lt-of-le, le-of-suc-le-suc, not-suc-le-zero, pow-suc}
 use native.Mathlib.Omega.{arith}
-use lib.Pow.{shr-shr}
+use lib.Pow.{shr-shr, high}
 
 -- the number that the w bits of f from place a make
 unfoldable pub num : (ℕ → ℕ) → ℕ → ℕ → ℕ
@@ -77,3 +77,18 @@ zeros-of-num f a zero e t h = absurd (not-suc-le-zero h)
 zeros-of-num f a (suc w) e t h =
     ⊎-elim (λ (q : t ≡ w). rw q (omega arith)) (λ (l : t < w). zeros-of-num f a w (omega arith) t l)
     (eq-or-lt-of-le (le-of-suc-le-suc h))
+
+-- ---- parts of a number
+
+-- t bits and w more
+pub num-append : (f : ℕ → ℕ) (a t w : ℕ) → num f a (t + w) ≡ num f a t * 2 ^ w + num f (a + t) w
+unfolding num
+num-append f a t zero = let e : t + 0 ≡ t = omega arith in rw e (omega arith)
+num-append f a t (suc w) =
+    let e : t + suc w ≡ suc (t + w) = omega arith in
+    let s : a + (t + w) ≡ a + t + w = omega arith in
+    rw (e, s) (omega (arith, num-append f a t w, ap (λ (x : ℕ). num f a t * x) (pow-suc 2 w)))
+
+-- the first bits are the quotient
+pub num-top : (f : ℕ → ℕ) → ((k : ℕ) → f k < 2) → (a w v : ℕ) → num f a (w + v) / 2 ^ v ≡ num f a w
+num-top f small a w v = rw (num-append f a w v) (high (num f a w) v (num-below f small (a + w) v))

@@ -1,7 +1,7 @@
 // Reads the fields of a record through a reader, two at a time, to its end and past it, and writes a line for each two.
 use libc::STDOUT_FILENO;
-use record::Value;
-use record::reader::take_two;
+use fields::Value;
+use fields::reader::take_two;
 
 fn text(words: &[u8]) {
     io::write_all(STDOUT_FILENO, words);

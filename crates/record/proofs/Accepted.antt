@@ -14,11 +14,9 @@ use Rattle.graph.specs.Answers.{noGraph}
 use Rattle.graph.specs.WellFormed.{orderFits}
 use Rattle.graph.proofs.Formed.{order-in-range, order-tested}
 use Rattle.record.specs.declared.Extent.{Extent}
-use Rattle.record.specs.declared.Looked.{Looked}
-use Rattle.record.specs.Looked.{IsLooked}
-use Rattle.record.specs.Marks.{Whole}
 use Rattle.record.specs.Layout.{byteCount}
-use Rattle.record.specs.Reading.{bitOf, orderIn, refusedIn, padIn, graphIn}
+use Rattle.fields.specs.Bits.{bitOf}
+use Rattle.record.specs.Reading.{orderIn, refusedIn, padIn, graphIn}
 use Rattle.record.specs.Answers.{extent, recordIn, recordAt, readAnswer}
 
 -- a record of order n, whose bits f gives, that passes every check where so many bytes are given
@@ -68,16 +66,10 @@ accepted-at s a =
 
 -- ---- the answer of reading
 
--- what was looked at and is not refused has its order and all its lines
-module _ (s : List ℕ) (looked : Looked) (is-looked : IsLooked s looked) (accepted : looked .found .refusal ≡ 0) where
-  pub its-order : looked .order ≡ orderIn (bitOf s)
-  its-order = is-looked .order accepted
-
-  pub its-height : looked .order ≤ 32
-  its-height = is-looked .high accepted
-
-  pub its-lines : Whole (bitOf s) (looked .order) (looked .entries)
-  its-lines = is-looked .whole accepted
+-- a record that is not refused is accepted
+pub found-accepted : (s : List ℕ) (r : Extent) → r ≡ recordAt s → r .refusal ≡ 0 → Accepted (bitOf s) (orderIn (bitOf s)) (length s)
+unfolding recordAt
+found-accepted s r is-r e = is-accepted (bitOf s) (orderIn (bitOf s)) (length s) (sym (ap (λ (x : Extent). x .refusal) is-r) ∙ e)
 
 -- an accepted record gives its graph
 pub read-accepted : (s : List ℕ) (r : Extent) (g : Graph) → r ≡ recordAt s → r .refusal ≡ 0 → g ≡ graphIn (bitOf s)

@@ -14,7 +14,8 @@ use Rattle.graph.specs.WellFormed.{wellFormed, orderFits}
 use Rattle.rows.specs.Fits.{startsFit, rowFits, pairFits}
 use Rattle.pairs.specs.Pairs.{pairs, fromRow, alongRow}
 use Rattle.record.specs.Layout.{bitCount, byteCount}
-use Rattle.record.specs.Reading.{bitOf, orderIn, startIn, startsIn, numberedIn, entryIn, isRefused, refusedIn, padIn, graphIn}
+use Rattle.fields.specs.Bits.{bitOf}
+use Rattle.record.specs.Reading.{orderIn, startIn, startsIn, numberedIn, entryIn, isRefused, refusedIn, padIn, graphIn}
 use Rattle.record.specs.Writing.{entryBit, recordBit, recordByte, recordOf}
 use Rattle.record.specs.Answers.{recordIn, recordAt, readAnswer, bufferAfter}
 

@@ -23,11 +23,12 @@ use Rattle.rows.proofs.Mirrored.{mirrored-above}
 use Rattle.graph.proofs.Drawn.{drawn-entry, drawn-formed}
 use Rattle.record.specs.declared.Extent.{Extent}
 use Rattle.record.specs.Layout.{startPlace, entryPlace, bitCount, byteCount}
-use Rattle.record.specs.Reading.{bitOf, orderIn, startIn, startsIn, numberedIn, entryIn, isRefused, refusedIn, padIn, graphIn}
+use Rattle.fields.specs.Bits.{bitOf}
+use Rattle.record.specs.Reading.{orderIn, startIn, startsIn, numberedIn, entryIn, isRefused, refusedIn, padIn, graphIn}
 use Rattle.record.specs.Writing.{entryBit, recordBit, recordOf}
 use Rattle.record.specs.Answers.{recordAt, readAnswer, restOf}
-use Rattle.record.proofs.BitLaws.{bit-small}
-use Rattle.record.proofs.PassLaws.{start-first, start-later, start-at-most}
+use Rattle.fields.proofs.BitLaws.{bit-small}
+use Rattle.record.proofs.StartLaws.{start-first, start-later, start-at-most}
 use Rattle.record.proofs.WriteLaws.{bit-of-order, bit-of-start, bit-of-entry, bit-of-pad}
 use Rattle.record.proofs.SizeLaws.{bytes-low, bytes-high}
 use Rattle.record.proofs.Accepted.{Accepted, is-accepted, accepted-at}

@@ -12,7 +12,8 @@ use Rattle.rows.specs.Rows.{startAt}
 use Rattle.pairs.specs.Pairs.{pairCount, pairOf}
 use Rattle.graph.specs.Counts.{entryAt}
 use Rattle.record.specs.Layout.{startPlace, entryPlace, bitCount, byteCount}
-use Rattle.record.specs.Reading.{bitOf, orderIn, numberedIn}
+use Rattle.fields.specs.Bits.{bitOf}
+use Rattle.record.specs.Reading.{orderIn, numberedIn}
 use Rattle.record.specs.Writing.{entryBit, recordBit, recordByte, recordOf}
 use Rattle.record.proofs.WriteLaws.{record-bit-small, bit-of-order, bit-of-start, bit-of-entry, bit-of-pad}
 

@@ -17,7 +17,8 @@ use Rattle.graph.specs.WellFormed.{wellFormed, orderFits}
 use Rattle.pairs.specs.Pairs.{pairCount}
 use Rattle.record.specs.declared.Extent.{Extent}
 use Rattle.record.specs.Layout.{bitCount, byteCount}
-use Rattle.record.specs.Reading.{bitOf, orderIn, numberedIn, isRefused, refusedIn, padIn, graphIn}
+use Rattle.fields.specs.Bits.{bitOf}
+use Rattle.record.specs.Reading.{orderIn, numberedIn, isRefused, refusedIn, padIn, graphIn}
 use Rattle.record.specs.Writing.{recordOf}
 use Rattle.record.specs.Answers.{extent, recordIn, recordAt, readAnswer, restOf, written, writeAnswer, bufferAfter}
 

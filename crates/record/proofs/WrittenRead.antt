@@ -26,10 +26,11 @@ use Rattle.graph.proofs.Rows.{starts-below}
 use Rattle.graph.proofs.Formed.{formed}
 use Rattle.graph.proofs.Drawn.{drawn-same, drawn-itself}
 use Rattle.record.specs.Layout.{startPlace, entryPlace, bitCount, byteCount}
-use Rattle.record.specs.Reading.{bitOf, orderIn, startIn, startsIn, numberedIn, entryIn, isRefused, refusedIn, padIn, graphIn}
+use Rattle.fields.specs.Bits.{bitOf}
+use Rattle.record.specs.Reading.{orderIn, startIn, startsIn, numberedIn, entryIn, isRefused, refusedIn, padIn, graphIn}
 use Rattle.record.specs.Writing.{recordBit, recordOf}
 use Rattle.record.specs.Answers.{extent, recordAt, readAnswer, restOf, written, writeAnswer, bufferAfter}
-use Rattle.record.proofs.PassLaws.{start-first, start-later}
+use Rattle.record.proofs.StartLaws.{start-first, start-later}
 use Rattle.record.proofs.Accepted.{Accepted, accepted-at, read-accepted}
 use Rattle.record.proofs.RecordBits.{bits-in-bytes, order-held, start-held, entry-held, pad-held, record-length, bits-held}
 

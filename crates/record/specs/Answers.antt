@@ -1,31 +1,19 @@
 -- The full answer of each public function, with its refusals by number and place, in the order of their checks.
-use Prim.Native.Nat.{ℕ, _+_, _*_}
+use Prim.Native.Nat.{ℕ}
 use mathlib.Core.List.{List, _++_}
 use lib.ListN.{length, drop}
 use lib.Dec.{leb, eqb}
-use Rattle.laws.specs.Test.{both, pick, unless}
-use Rattle.laws.specs.Num.{num}
+use Rattle.laws.specs.Test.{pick, unless}
 use Rattle.graph.specs.declared.Graph.{Graph}
 use Rattle.graph.specs.WellFormed.{wellFormed, orderFits}
 use Rattle.graph.specs.Answers.{noGraph}
-use Rattle.record.specs.declared.Value.{Value}
 use Rattle.record.specs.declared.Extent.{Extent}
 use Rattle.record.specs.declared.Record.{Record}
 use Rattle.record.specs.declared.Written.{Written}
 use Rattle.record.specs.Layout.{byteCount}
-use Rattle.record.specs.Reading.{bitOf, orderIn, refusedIn, padIn, graphIn}
+use Rattle.fields.specs.Bits.{bitOf}
+use Rattle.record.specs.Reading.{orderIn, refusedIn, padIn, graphIn}
 use Rattle.record.specs.Writing.{recordOf}
-
--- ---- a field
-
-abbrev pub value : ℕ → ℕ → ℕ → Value
-value number place v = record { refusal = number; place = place; value = v }
-
-unfoldable pub fieldAnswer : List ℕ → ℕ → ℕ → Value
-fieldAnswer s place width =
-    unless (both (leb 1 width) (leb width 6)) (value 12 0 0)
-    (unless (leb (place + width) (8 * length s)) (value 1 (length s) 0)
-    (value 0 0 (num (bitOf s) place width)))
 
 -- ---- how many bytes a record takes
 

@@ -1,8 +1,6 @@
 -- What a function from place to bit says when it is read as a record.
-use Prim.Native.Nat.{ℕ, _-_, _*_, _/_, _%_, _^_}
+use Prim.Native.Nat.{ℕ, _-_, _*_}
 use mathlib.Core.Bool.{Bool}
-use mathlib.Core.List.{List}
-use lib.ListN.{getD}
 use lib.Dec.{eqb}
 use Rattle.laws.specs.Test.{pick}
 use Rattle.laws.specs.UpTo.{wordUpTo}
@@ -12,10 +10,6 @@ use Rattle.graph.specs.declared.Graph.{Graph}
 use Rattle.graph.specs.Graph.{drawn}
 use Rattle.pairs.specs.Pairs.{pairCount, number}
 use Rattle.record.specs.Layout.{startPlace, entryPlace, bitCount, byteCount}
-
--- the bit at place k of the bytes s, the most significant of a byte first; 0 past their end
-unfoldable pub bitOf : List ℕ → ℕ → ℕ
-bitOf s k = getD s (k / 8) 0 / 2 ^ (7 - k % 8) % 2
 
 -- the order
 unfoldable pub orderIn : (ℕ → ℕ) → ℕ

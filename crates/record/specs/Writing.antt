@@ -1,6 +1,5 @@
 -- The record of a graph: the bit at each place, and the bytes that hold these bits.
-use Prim.Native.Nat.{ℕ, _+_, _-_, _*_, _/_, _%_, _≤_, _<_}
-use mathlib.Core.Path.{_≡_}
+use Prim.Native.Nat.{ℕ, _+_, _-_, _*_, _/_, _%_}
 use mathlib.Core.List.{List}
 use lib.Dec.{ltb}
 use Rattle.laws.specs.Test.{pick}
@@ -32,11 +31,3 @@ recordByte g k = num (recordBit g) (8 * (k - 1)) 8
 -- the record of g
 unfoldable pub recordOf : Graph → List ℕ
 recordOf g = listUpTo (recordByte g) (byteCount (g .order))
-
--- (i, j) is the pair with number m
-pub record IsPairOf (n m i j : ℕ) : Type 0 where
-  pub is-row : i ≡ (pairOf n m) .row
-  pub is-column : j ≡ (pairOf n m) .column
-  pub from-one : 1 ≤ i
-  pub rising : i < j
-  pub to-order : j ≤ n

@@ -13,7 +13,7 @@ fn product(a: u32, b: u32) -> u32
 }
 
 // How many pairs there are.
-pub(crate) fn pair_count(order: u32) -> u32
+pub fn pair_count(order: u32) -> u32
     requires { ⌜ (1 ≤ order) × (order ≤ 32) ⌝ }
     ensures { λ r. ⌜ (r ≡ pairCount order) × (r ≤ 2048) ⌝ }
 {
@@ -21,7 +21,7 @@ pub(crate) fn pair_count(order: u32) -> u32
 }
 
 // How many bits come before the padding.
-pub(crate) fn bit_count(order: u32) -> usize
+pub fn bit_count(order: u32) -> usize
     requires { ⌜ (1 ≤ order) × (order ≤ 32) ⌝ }
     ensures { λ r. ⌜ (r ≡ bitCount order) × (r ≤ 5000) ⌝ }
 {
@@ -29,7 +29,7 @@ pub(crate) fn bit_count(order: u32) -> usize
 }
 
 // How many bytes there are in all.
-pub(crate) fn byte_count(order: u32) -> usize
+pub fn byte_count(order: u32) -> usize
     requires { ⌜ (1 ≤ order) × (order ≤ 32) ⌝ }
     ensures { λ r. ⌜ (r ≡ byteCount order) × (r ≤ 1000) ⌝ }
 {
@@ -37,7 +37,7 @@ pub(crate) fn byte_count(order: u32) -> usize
 }
 
 // The number of the pair (i, j).
-pub(crate) fn number_of(order: u32, i: u32, j: u32) -> u32
+pub fn number_of(order: u32, i: u32, j: u32) -> u32
     requires { ⌜ (1 ≤ i) × (i < j) × (j ≤ order) × (order ≤ 32) ⌝ }
     ensures { λ r. ⌜ (r ≡ number order i j) × (1 ≤ r) × (r ≤ 4096) ⌝ }
 {
@@ -45,7 +45,7 @@ pub(crate) fn number_of(order: u32, i: u32, j: u32) -> u32
 }
 
 // The place of the first entry of row i.
-pub(crate) fn line_place(order: u32, i: u32) -> usize
+pub fn line_place(order: u32, i: u32) -> usize
     requires { ⌜ (1 ≤ i) × (i ≤ order) × (order ≤ 32) ⌝ }
     ensures { λ r. ⌜ (r ≡ cell order i (i + 1)) × (r ≤ 10000) ⌝ }
 {

@@ -1,0 +1,4 @@
+pub mod BitLaws
+pub mod FieldLaws
+pub mod TakenLaws
+pub mod LentReader

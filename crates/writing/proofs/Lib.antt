@@ -1,0 +1,5 @@
+pub mod Buffer
+pub mod CodePen
+pub mod Reached
+pub mod PutLaws
+pub mod WriteCases
