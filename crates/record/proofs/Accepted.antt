@@ -66,10 +66,17 @@ accepted-at s a =
 
 -- ---- the answer of reading
 
--- a record that is not refused is accepted
-pub found-accepted : (s : List ℕ) (r : Extent) → r ≡ recordAt s → r .refusal ≡ 0 → Accepted (bitOf s) (orderIn (bitOf s)) (length s)
-unfolding recordAt
-found-accepted s r is-r e = is-accepted (bitOf s) (orderIn (bitOf s)) (length s) (sym (ap (λ (x : Extent). x .refusal) is-r) ∙ e)
+-- the order of a record that is not refused
+module _ (s : List ℕ) (r : Extent) (is-r : r ≡ recordAt s) (e : r .refusal ≡ 0) where
+  accepted : Accepted (bitOf s) (orderIn (bitOf s)) (length s)
+  unfolding recordAt
+  accepted = is-accepted (bitOf s) (orderIn (bitOf s)) (length s) (sym (ap (λ (x : Extent). x .refusal) is-r) ∙ e)
+
+  pub found-low : 1 ≤ orderIn (bitOf s)
+  found-low = accepted .low
+
+  pub found-high : orderIn (bitOf s) ≤ 32
+  found-high = accepted .high
 
 -- an accepted record gives its graph
 pub read-accepted : (s : List ℕ) (r : Extent) (g : Graph) → r ≡ recordAt s → r .refusal ≡ 0 → g ≡ graphIn (bitOf s)

@@ -18,6 +18,9 @@ use Rattle.rows.specs.Rows.{row, withMark, onesAt}
 pub shifted-one : (k : ℕ) → k ≤ 32 → 1 * 2 ^ k % 2 ^ 64 ≡ 2 ^ k
 shifted-one k l = shl-exact 1 k 64 (lit< tt) (omega arith) ∙ one-mul (2 ^ k)
 
+pub shifted-limit : (k : ℕ) → k ≤ 32 → 1 ≤ 1 * 2 ^ k % 2 ^ 64
+shifted-limit k l = rw (shifted-one k l) (pow-pos k)
+
 -- 1 << k is 2 ^ k where that fits 32 bits
 pub shifted-word : (k : ℕ) → k < 32 → 1 * 2 ^ k % 2 ^ 32 ≡ 2 ^ k
 shifted-word k l = shl-exact 1 k 32 (lit< tt) (omega arith) ∙ one-mul (2 ^ k)

@@ -1,6 +1,7 @@
 // Words of bits.
 ghost use mathlib.Core.Path.{_≡_};
 ghost use Prim.Native.Nat.{_*_, _≤_, _<_, _^_};
+ghost use lib.Count.{trailingZeros};
 ghost use Rattle.laws.specs.Bit.{withBit};
 ghost use Rattle.rows.specs.Standing.{mixed};
 
@@ -14,7 +15,7 @@ pub fn wide(x: u32) -> u64
 // 2 to the k, up to the 32nd power.
 pub fn limit_of(k: u32) -> u64
     requires { ⌜ k ≤ 32 ⌝ }
-    ensures { λ r. ⌜ r ≡ 2 ^ k ⌝ }
+    ensures { λ r. ⌜ (r ≡ 2 ^ k) × (1 ≤ r) ⌝ }
 {
     1u64 << k
 }
@@ -34,6 +35,13 @@ pub fn mixed_of(k: u32, low: u32, high: u32) -> u32
 {
     let p = power(k);
     high - high % p + low % p
+}
+
+// The place of the lowest bit of a word.
+pub fn lowest(w: u32) -> u32
+    ensures { λ r. ⌜ r ≡ trailingZeros 32 w ⌝ }
+{
+    u32::trailing_zeros(w)
 }
 
 // The bit b at place k.

@@ -1,5 +1,5 @@
 use borrow.Author.Needs.{needs}
-use Rattle.rows.proofs.CodeWords.{shifted-one}
+use Rattle.rows.proofs.CodeWords.{shifted-one, shifted-limit}
 use Rattle.rows.proofs.words.limit_of.Statement.{statement}
 use Rattle.rows.proofs.words.limit_of.Tie as tie
 
@@ -7,7 +7,7 @@ shl-result : tie.Need-shl-result
 shl-result c = search needs
 
 returns : tie.Need-returns
-returns c = search (shifted-one, needs)
+returns c = search (shifted-one, shifted-limit, needs)
 
 pub limit-of-spec : {M : Type 1} → statement M
 limit-of-spec = tie.close (tie.spec shl-result returns)

@@ -1,0 +1,80 @@
+-- After i turns the first i lines are there, and zeros.
+use Prim.Native.Nat.{_-_, _≤_}
+use mathlib.Core.Path.{_≡_}
+use borrow.Author.Needs.{needs}
+use Rattle.rows.specs.Rows.{placed}
+use Rattle.rows.proofs.Filled.{placed-starts}
+use Rattle.fields.specs.Bits.{bitOf}
+use Rattle.reading.specs.Lines.{lineIn}
+use Rattle.reading.proofs.LineLaws.{unknowns-turn, edges-turn, lines-done}
+use Rattle.reading.proofs.lines.lines_of.Statement.{statement}
+use Rattle.reading.proofs.lines.lines_of.Tie as tie
+
+abbrev Inv-loop : tie.InvT-loop
+Inv-loop bytes order unknowns₀ edges₀ i₀ unknowns edges i = (i ≤ order) × (unknowns ≡ placed (lineIn (bitOf bytes) order 0) i) × (edges ≡ placed (lineIn (bitOf bytes) order 1) i)
+
+abbrev μ-loop : tie.MeasureT-loop
+μ-loop bytes order unknowns₀ edges₀ i₀ unknowns edges i = order - i
+
+loop-holds : tie.Need-loop-holds Inv-loop μ-loop
+loop-holds c = search (placed-starts, needs)
+
+add-entries-of : tie.Need-add-entries-of Inv-loop μ-loop
+add-entries-of c = search needs
+
+entries-of-requires : tie.Need-entries-of-requires Inv-loop μ-loop
+entries-of-requires c κs = search needs
+
+add-line-from : tie.Need-add-line-from Inv-loop μ-loop
+add-line-from c = search needs
+
+line-from-requires : tie.Need-line-from-requires Inv-loop μ-loop
+line-from-requires c κs = search needs
+
+cast-k : tie.Need-cast-k Inv-loop μ-loop
+cast-k c = search needs
+
+mul-unknowns : tie.Need-mul-unknowns Inv-loop μ-loop
+mul-unknowns c = search needs
+
+array-write-unknowns : tie.Need-array-write-unknowns Inv-loop μ-loop
+array-write-unknowns c = search needs
+
+mul-edges : tie.Need-mul-edges Inv-loop μ-loop
+mul-edges c = search needs
+
+array-write-edges : tie.Need-array-write-edges Inv-loop μ-loop
+array-write-edges c = search needs
+
+add-i : tie.Need-add-i Inv-loop μ-loop
+add-i c = search needs
+
+loop-less : tie.Need-loop-less Inv-loop μ-loop
+loop-less c = search needs
+
+loop-again : tie.Need-loop-again Inv-loop μ-loop
+loop-again c = search (unknowns-turn, edges-turn, needs)
+
+returns : tie.Need-returns Inv-loop μ-loop
+returns c = search (lines-done, needs)
+
+pub lines-of-spec : {M : Type 1} → statement M
+lines-of-spec =
+    tie.close
+    (tie.spec
+    Inv-loop
+    μ-loop
+    loop-holds
+    add-entries-of
+    entries-of-requires
+    add-line-from
+    line-from-requires
+    cast-k
+    mul-unknowns
+    array-write-unknowns
+    mul-edges
+    array-write-edges
+    add-i
+    loop-less
+    loop-again
+    returns)

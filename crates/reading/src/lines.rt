@@ -1,0 +1,69 @@
+// The entries of a row above the diagonal.
+ghost use mathlib.Core.Path.{_≡_};
+ghost use Prim.Native.Nat.{_+_, _-_, _*_, _≤_};
+ghost use Rattle.laws.specs.Num.{num};
+ghost use Rattle.fields.specs.Bits.{bitOf};
+ghost use Rattle.record.specs.Layout.{cell};
+ghost use Rattle.reading.specs.Lines.{LineFrom, Whole};
+use crate::bits::bits_at;
+use record::layout::line_place;
+
+// A word of unknowns and one of edges.
+pub struct Line {
+    pub unknowns: u32,
+    pub edges: u32,
+}
+
+// The lines of all rows.
+pub struct Lines {
+    pub unknowns: [u32; 32],
+    pub edges: [u32; 32],
+}
+
+// The entries of row i after the diagonal as one number, two bits each, the first the most significant.
+pub fn entries_of(bytes: &[u8], order: u32, i: u32) -> u64
+    requires { ⌜ (1 ≤ i) × (i ≤ order) × (order ≤ 32) ⌝ }
+    ensures { λ r. ⌜ r ≡ num (bitOf (now (bytes .entry))) (cell order i (i + 1)) (2 * (order - i)) ⌝ }
+{
+    bits_at(bytes, line_place(order, i), 2 * (order - i))
+}
+
+// The words of a row from the number of its entries.
+pub fn line_from(entries: u64, order: u32, i: u32) -> Line
+    requires { ⌜ (i ≤ order) × (order ≤ 32) ⌝ }
+    ensures { λ r. ⌜ LineFrom entries (order - i) i r ⌝ }
+{
+    let count = order - i;
+    let mut left = entries;
+    let mut unknowns = 0u64;
+    let mut edges = 0u64;
+    let mut t = 0;
+    while t < count {
+        edges = 2 * edges + left % 2;
+        unknowns = 2 * unknowns + left / 2 % 2;
+        left = left / 4;
+        t += 1;
+    }
+    Line {
+        unknowns: (unknowns << i) as u32,
+        edges: (edges << i) as u32,
+    }
+}
+
+// The lines of all rows.
+pub fn lines_of(bytes: &[u8], order: u32) -> Lines
+    requires { ⌜ (1 ≤ order) × (order ≤ 32) ⌝ }
+    ensures { λ r. ⌜ Whole (bitOf (now (bytes .entry))) order r ⌝ }
+{
+    let mut unknowns = [0u32; 32];
+    let mut edges = [0u32; 32];
+    let mut i = 0;
+    while i < order {
+        let line = line_from(entries_of(bytes, order, i + 1), order, i + 1);
+        let k = i as usize;
+        unknowns[k] = line.unknowns;
+        edges[k] = line.edges;
+        i += 1;
+    }
+    Lines { unknowns, edges }
+}
