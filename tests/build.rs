@@ -13,18 +13,19 @@ fn main() {
     let home = PathBuf::from(env::var("CARGO_MANIFEST_DIR").unwrap());
     let out = PathBuf::from(env::var("OUT_DIR").unwrap());
 
-    let source = home.join("baseline/search.c");
-    let object = out.join("search.o");
     let archive = out.join("libbaseline.a");
-    run(Command::new("cc")
-        .args(["-std=c11", "-O3", "-Wall", "-Wextra", "-Werror", "-fPIC", "-c"])
-        .arg(&source)
-        .arg("-o")
-        .arg(&object));
-    run(Command::new("ar").arg("rcs").arg(&archive).arg(&object));
+    for name in ["graph", "judge", "record", "search"] {
+        let object = out.join(format!("{name}.o"));
+        run(Command::new("cc")
+            .args(["-std=c11", "-O3", "-Wall", "-Wextra", "-Werror", "-fPIC", "-c"])
+            .arg(home.join(format!("baseline/{name}.c")))
+            .arg("-o")
+            .arg(&object));
+        run(Command::new("ar").arg("rcs").arg(&archive).arg(&object));
+    }
     println!("cargo:rustc-link-search=native={}", out.display());
     println!("cargo:rustc-link-lib=static=baseline");
-    println!("cargo:rerun-if-changed={}", source.display());
+    println!("cargo:rerun-if-changed={}", home.join("baseline").display());
 
     if env::var_os("CARGO_FEATURE_LIBRARY").is_some() {
         let folder = home.join("../target/staticlib");

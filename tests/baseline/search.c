@@ -1,16 +1,7 @@
-/*
- * The search of docs/RULES.md in plain C: the bar for the proved one.
- *
- * Places, vertices and rows count from 0. The graph must be well formed.
- * Answers the steps in bits 0..31, and above them 0 none, 1 smaller, 2 cut.
- */
+/* The search through beginnings in dictionary order. */
+#include <string.h>
 
-#include <stdbool.h>
-#include <stdint.h>
-
-enum { NONE = 0, SMALLER = 1, CUT = 2 };
-
-static uint64_t answer(uint64_t ending, uint32_t steps) { return ending << 32 | steps; }
+#include "baseline.h"
 
 static bool same_pair(uint32_t x, uint32_t y, uint32_t i, uint32_t j)
 {
@@ -30,30 +21,75 @@ static void set_stops(uint32_t order, uint32_t first_edges, uint32_t first, uint
     }
 }
 
-/* Rows 2 and up at length n: whether the first pair that decides wins. */
-static bool walk_wins(uint32_t order, const uint32_t *restrict edges,
-                      const uint32_t *restrict non_edges, const uint32_t *restrict vertices)
+/* What the walk at length n comes to: it goes on, it is lost, or it is won at a pair,
+ * which is row * 32 + column. */
+enum { ON = 0, LOST = 1 };
+
+/* Row i pair by pair, to the first pair that decides. */
+static inline uint32_t row_walk(uint32_t order, uint32_t i, uint32_t row_edges, uint32_t zeros,
+                                const uint32_t *restrict vertices)
 {
-    for (uint32_t i = 1; i < order; i++) {
-        const uint32_t x = vertices[i];
-        const uint32_t row = non_edges[x];
-        uint32_t edge_bits = edges[i] >> i;
-        for (uint32_t j = i + 1; j < order; j++) {
-            edge_bits >>= 1;
-            const uint32_t y = vertices[j];
-            if ((row >> y ^ edge_bits) & 1)
-                continue;
-            if (edge_bits & 1)
-                return true;
-            if (!same_pair(x, y, i, j))
-                return false;
-        }
+    const uint32_t x = vertices[i];
+    uint32_t edge_bits = row_edges >> i;
+    for (uint32_t j = i + 1; j < order; j++) {
+        edge_bits >>= 1;
+        const uint32_t y = vertices[j];
+        if ((zeros >> y ^ edge_bits) & 1)
+            continue;
+        if (edge_bits & 1)
+            return i << 5 | j;
+        if (!same_pair(x, y, i, j))
+            return LOST;
     }
-    return false;
+    return ON;
 }
 
-uint64_t baseline_search(uint32_t order, const uint32_t edges[32], const uint32_t unknowns[32],
-                         uint32_t starts, uint32_t budget)
+/* Whether row i is alike all along: no edge after place i and no later vertex a mark,
+ * or each has one. Then it goes on. */
+static inline bool is_alike(uint32_t order, uint32_t i, uint32_t row_edges, uint32_t non_edges,
+                            uint32_t later)
+{
+    const uint32_t after = row_edges >> i >> 1;
+    const uint32_t marked = later & ~non_edges;
+    if (after == 0)
+        return marked == 0;
+    return marked == later && after == (UINT32_C(1) << (order - 1 - i)) - 1;
+}
+
+/* Rows 3 and up: one that is alike is passed at once. Kept out of the search's own loop,
+ * which is faster without it. */
+__attribute__((noinline))
+static uint32_t later_rows(uint32_t order, const uint32_t *restrict edges,
+                           const uint32_t *restrict non_edges, const uint32_t *restrict vertices)
+{
+    uint32_t later = UINT32_MAX >> (32 - order);
+    later ^= UINT32_C(1) << vertices[0] | UINT32_C(1) << vertices[1];
+    for (uint32_t i = 2; i + 1 < order; i++) {
+        const uint32_t zeros = non_edges[vertices[i]];
+        later ^= UINT32_C(1) << vertices[i];
+        if (is_alike(order, i, edges[i], zeros, later))
+            continue;
+        const uint32_t end = row_walk(order, i, edges[i], zeros, vertices);
+        if (end != ON)
+            return end;
+    }
+    return ON;
+}
+
+/* Rows 2 and up. Most walks end in row 2. */
+static inline uint32_t walk(uint32_t order, const uint32_t *restrict edges,
+                            const uint32_t *restrict non_edges, const uint32_t *restrict vertices)
+{
+    if (order < 3)
+        return ON;
+    const uint32_t end = row_walk(order, 1, edges[1], non_edges[vertices[1]], vertices);
+    if (__builtin_expect(end == ON, 0))
+        return later_rows(order, edges, non_edges, vertices);
+    return end;
+}
+
+void baseline_search(uint32_t order, const uint32_t edges[32], const uint32_t unknowns[32],
+                     uint32_t starts, uint32_t budget, struct found *found)
 {
     uint32_t non_edges[32], blocks[32], untried[32], vertices[32], stops[32];
     const uint32_t last = order - 1;
@@ -73,25 +109,40 @@ uint64_t baseline_search(uint32_t order, const uint32_t edges[32], const uint32_
 
     uint32_t steps = 0, used = 0, place = 0;
     uint32_t left = blocks[0];  /* the vertices still to be tried at this place */
+    uint32_t row = 0, column = 0;
     stops[0] = 0;
     for (;;) {
         if (left == 0) {
-            if (place == 0)
-                return answer(NONE, steps);
+            if (place == 0) {
+                found->ending = NONE;
+                break;
+            }
             place--;
             used ^= UINT32_C(1) << vertices[place];
             left = untried[place];
             continue;
         }
-        if (steps == budget)
-            return answer(CUT, steps);
+        if (steps == budget) {
+            found->ending = CUT;
+            break;
+        }
         steps++;
         const uint32_t vertex = (uint32_t)__builtin_ctz(left);
         left &= left - 1;
         vertices[place] = vertex;
         if (stops[place] >> vertex & 1) {
-            if (first_edges >> place & 1)
-                return answer(SMALLER, steps);
+            if (first_edges >> place & 1) {
+                /* Won in row 1: the lowest unused vertices fill the places after it. */
+                row = 0;
+                column = place;
+                used |= UINT32_C(1) << vertex;
+                while (++place < order) {
+                    vertices[place] = (uint32_t)__builtin_ctz(blocks[place] & ~used);
+                    used |= UINT32_C(1) << vertices[place];
+                }
+                found->ending = SMALLER;
+                break;
+            }
         } else if (place < last) {
             if (place == 0)
                 set_stops(order, first_edges, vertex, non_edges[vertex], stops);
@@ -99,8 +150,19 @@ uint64_t baseline_search(uint32_t order, const uint32_t edges[32], const uint32_
             used |= UINT32_C(1) << vertex;
             place++;
             left = blocks[place] & ~used;
-        } else if (walk_wins(order, edges, non_edges, vertices)) {
-            return answer(SMALLER, steps);
+        } else {
+            const uint32_t end = walk(order, edges, non_edges, vertices);
+            if (end > LOST) {
+                row = end >> 5;
+                column = end & 31;
+                found->ending = SMALLER;
+                break;
+            }
         }
     }
+    found->steps = steps;
+    found->row = row;
+    found->column = column;
+    if (found->ending == SMALLER)
+        memcpy(found->vertices, vertices, order * sizeof *vertices);
 }

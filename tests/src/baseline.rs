@@ -1,55 +1,50 @@
-//! The C baseline, called.
+//! The C baseline.
 
 use crate::graph::Graph;
-use crate::verdict::Verdict;
+use crate::linked::Linked;
+use crate::verdict::Judgement;
 
 unsafe extern "C" {
-    fn baseline_search(
+    fn baseline_judge_record(
+        record: *const u8,
+        record_len: usize,
+        budget: u32,
+        literals: *mut i32,
+        literals_len: usize,
+        arrangement: *mut u8,
+    ) -> u64;
+
+    fn baseline_judge_rows(
         order: u32,
         edges: *const u32,
         unknowns: *const u32,
         starts: u32,
         budget: u32,
+        literals: *mut i32,
+        literals_len: usize,
+        arrangement: *mut u8,
+    ) -> u64;
+
+    fn baseline_record_size(record: *const u8, record_len: usize) -> u64;
+
+    fn baseline_write_record(
+        order: u32,
+        edges: *const u32,
+        unknowns: *const u32,
+        starts: u32,
+        out: *mut u8,
+        out_len: usize,
     ) -> u64;
 }
 
-/// How the C search of a graph that is well formed ends: "none", "smaller" or
-/// "cut", without pair and clause.
-#[derive(Clone, Copy, PartialEq, Eq, Debug)]
-pub enum Ending {
-    Nothing,
-    Smaller,
-    Cut,
-}
+pub const BASELINE: Linked = Linked {
+    judge_record: baseline_judge_record,
+    judge_rows: baseline_judge_rows,
+    record_size: baseline_record_size,
+    write_record: baseline_write_record,
+};
 
-impl Ending {
-    /// The ending that a verdict tells of.
-    pub fn of(verdict: &Verdict) -> Option<Ending> {
-        match verdict {
-            Verdict::Nothing { .. } => Some(Ending::Nothing),
-            Verdict::Smaller { .. } => Some(Ending::Smaller),
-            Verdict::Cut { .. } => Some(Ending::Cut),
-            Verdict::Refused(_) => None,
-        }
-    }
-}
-
-/// Searches in C; the graph must be well formed.
-pub fn search(graph: &Graph, budget: u32) -> (Ending, u32) {
-    // SAFETY: both pointers are to 32 rows, which the function only reads.
-    let answer = unsafe {
-        baseline_search(
-            graph.order,
-            graph.edges.as_ptr(),
-            graph.unknowns.as_ptr(),
-            graph.starts,
-            budget,
-        )
-    };
-    let ending = match answer >> 32 {
-        0 => Ending::Nothing,
-        1 => Ending::Smaller,
-        _ => Ending::Cut,
-    };
-    (ending, answer as u32)
+/// Judges a graph value.
+pub fn judge(graph: &Graph, budget: u32, literals: &mut [i32]) -> Judgement {
+    BASELINE.judge(graph, budget, literals)
 }

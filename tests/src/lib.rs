@@ -10,6 +10,7 @@ pub mod judge;
 pub mod judge_plain;
 #[cfg(feature = "library")]
 pub mod library;
+pub mod linked;
 pub mod listing;
 pub mod pairs;
 pub mod random;
@@ -21,9 +22,18 @@ pub mod verdict;
 /// A way to judge a graph value.
 pub type Judge = fn(&graph::Graph, u32, &mut [i32]) -> verdict::Judgement;
 
-/// All that judge quickly: the oracle, and the proved library where it is linked.
+/// All that judge quickly: the oracle, the C baseline, and the proved library
+/// where it is linked.
 pub const JUDGES: &[Judge] = &[
     judge::judge,
+    baseline::judge,
     #[cfg(feature = "library")]
     library::judge,
+];
+
+/// What answers as include/cafruzek.h says.
+pub const LINKED: &[linked::Linked] = &[
+    baseline::BASELINE,
+    #[cfg(feature = "library")]
+    library::LIBRARY,
 ];

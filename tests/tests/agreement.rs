@@ -1,7 +1,7 @@
 //! The plain judge, the fast one and the C baseline agree.
 
 use oracle::arrangement::{permitted, relabel};
-use oracle::baseline::{self, Ending};
+use oracle::baseline;
 use oracle::graph::Graph;
 use oracle::judge::{judge, well_formed};
 use oracle::judge_plain::judge_plain;
@@ -12,7 +12,7 @@ use oracle::verdict::Verdict;
 
 const UNTOUCHED: i32 = 7777;
 
-/// Compares all three on one graph and budget, and the plain one's whole buffer.
+/// Compares all three on one graph and budget, with their whole buffers.
 fn agree(graph: &Graph, budget: u32) {
     let mut fast = [UNTOUCHED; 20];
     let mut plain = [UNTOUCHED; 20];
@@ -23,10 +23,12 @@ fn agree(graph: &Graph, budget: u32) {
 }
 
 fn same_as_baseline(graph: &Graph, budget: u32) -> u32 {
-    let judgement = judge(graph, budget, &mut [0; 496]);
-    let (ending, steps) = baseline::search(graph, budget);
-    assert_eq!((Some(ending), steps), (Ending::of(&judgement.verdict), judgement.steps()));
-    steps
+    let mut fast = [UNTOUCHED; 496];
+    let mut plain_c = [UNTOUCHED; 496];
+    let judgement = judge(graph, budget, &mut fast);
+    assert_eq!(judgement, baseline::judge(graph, budget, &mut plain_c), "{graph:?}");
+    assert_eq!(fast, plain_c, "{graph:?}");
+    judgement.steps()
 }
 
 /// The budgets around the steps needed, with 0, 1 and the largest.

@@ -11,9 +11,10 @@ use Rattle.laws.specs.Test.{pick, unless}
 use Rattle.laws.specs.Num.{num-below}
 use Rattle.graph.specs.declared.Graph.{Graph}
 use Rattle.graph.specs.WellFormed.{wellFormed, orderFits}
-use Rattle.graph.specs.Pairs.{Pair, pairs, pairCount, entryAt}
+use Rattle.pairs.specs.Pairs.{Pair, pairs, pairCount}
+use Rattle.graph.specs.Counts.{entryAt}
 use Rattle.graph.proofs.Formed.{formed, order-in-range}
-use Rattle.graph.proofs.PairLaws.{Between, pairs-given, pairCount-mono}
+use Rattle.pairs.proofs.PairLaws.{Between, pairs-given, pairCount-mono}
 use Rattle.record.specs.declared.Extent.{Extent}
 use Rattle.record.specs.declared.Written.{Written}
 use Rattle.record.specs.Layout.{byteCount}

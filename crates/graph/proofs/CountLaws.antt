@@ -15,10 +15,11 @@ use Rattle.laws.specs.UpTo.{sumUpTo}
 use Rattle.laws.specs.UpToLaws.{sum-same, sum-added, sum-bound}
 use Rattle.laws.specs.SumLaws.{sumUpTo-past, sumUpTo-one, sumFrom, sumFrom-upTo, sumFrom-same, sumFrom-add, sumAlong, sumAlong-append, ones-sum-low}
 use Rattle.graph.specs.declared.Graph.{Graph}
-use Rattle.graph.specs.Graph.{row}
+use Rattle.rows.specs.Rows.{row}
 use Rattle.graph.specs.WellFormed.{WellFormed}
-use Rattle.graph.specs.Pairs.{Pair, alongRow, fromRow, pairs, pairCount, countOf, entryAt, pairsWith, edgesAt}
-use Rattle.graph.proofs.PairLaws.{Mirrored, entryOf, fromRow-split, pairs-length}
+use Rattle.pairs.specs.Pairs.{Pair, alongRow, fromRow, pairs, pairCount, countOf}
+use Rattle.graph.specs.Counts.{entryAt, pairsWith, edgesAt}
+use Rattle.pairs.proofs.PairLaws.{Mirrored, entryOf, fromRow-split, pairs-length}
 
 -- ---- sums over the pairs
 

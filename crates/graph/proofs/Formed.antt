@@ -12,8 +12,10 @@ use Rattle.laws.specs.TestLaws.{both-first, both-second, both-hold, pick-true, 
 use Rattle.laws.specs.BitLaws.{bits-past, bit-of-zero}
 use Rattle.laws.specs.UpToLaws.{all-at, all-hold}
 use Rattle.graph.specs.declared.Graph.{Graph}
-use Rattle.graph.specs.Graph.{row, entry, startAt}
-use Rattle.graph.specs.WellFormed.{WellFormed, pairFits, rowFits, startsFit, orderFits, wellFormed}
+use Rattle.rows.specs.Rows.{row, startAt}
+use Rattle.graph.specs.Graph.{entry}
+use Rattle.graph.specs.WellFormed.{WellFormed, orderFits, wellFormed}
+use Rattle.rows.specs.Fits.{pairFits, rowFits, startsFit}
 use Rattle.graph.proofs.Rows.{edges-below, unknowns-below, edges-past, unknowns-past, starts-below, formed-by}
 
 -- ---- what the parts of the test say

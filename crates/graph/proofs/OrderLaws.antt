@@ -12,9 +12,10 @@ use Rattle.walk.proofs.Order.{earlier-lexicographic}
 use Rattle.graph.specs.declared.Graph.{Graph}
 use Rattle.graph.specs.Graph.{entry}
 use Rattle.graph.specs.WellFormed.{WellFormed, FullyDrawn}
-use Rattle.graph.specs.Pairs.{Pair, pair, alongRow, fromRow, pairs, entryAt}
+use Rattle.pairs.specs.Pairs.{Pair, pair, alongRow, fromRow, pairs}
+use Rattle.graph.specs.Counts.{entryAt}
 use Rattle.graph.specs.Order.{EarlierGraph, rowsJoined, matrixWord}
-use Rattle.graph.proofs.PairLaws.{Mirrored, entryOf, alongRow-append, fromRow-split, along-given, along-has}
+use Rattle.pairs.proofs.PairLaws.{Mirrored, entryOf, alongRow-append, fromRow-split, along-given, along-has}
 
 module _ (x y : Pair → ℕ) where
   -- x read along ks is a smaller word than y

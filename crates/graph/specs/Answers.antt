@@ -11,10 +11,10 @@ use Rattle.graph.specs.declared.Change.{Change}
 use Rattle.graph.specs.declared.Totals.{Totals}
 use Rattle.graph.specs.declared.Degree.{Degree}
 use Rattle.graph.specs.declared.Arrangement.{Arrangement}
-use Rattle.graph.specs.Graph.{entry, withEntry}
+use Rattle.graph.specs.Graph.{entry, withEntry, relabelled}
 use Rattle.graph.specs.WellFormed.{wellFormed, orderFits}
-use Rattle.graph.specs.Pairs.{pairsWith, edgesAt}
-use Rattle.graph.specs.Arrangement.{isReordering, isPermitted, relabelled, composed, inverse}
+use Rattle.graph.specs.Counts.{pairsWith, edgesAt}
+use Rattle.arrangements.specs.Arrangement.{isReordering, isPermitted, composed, inverse}
 
 -- 7: vertex 0, a vertex above n, or i = j
 unfoldable pub isVertex : ℕ → ℕ → Bool

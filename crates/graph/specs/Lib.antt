@@ -1,8 +1,5 @@
 pub mod Graph
 pub mod WellFormed
-pub mod Arrangement
-pub mod Pairs
+pub mod Counts
 pub mod Answers
 pub mod Order
-pub mod Stage
-pub mod Standing

@@ -5,7 +5,8 @@ use Rattle.laws.specs.UpTo.{listUpTo}
 use Rattle.walk.specs.Earlier.{Earlier}
 use Rattle.graph.specs.declared.Graph.{Graph}
 use Rattle.graph.specs.Graph.{entry}
-use Rattle.graph.specs.Pairs.{pairs, entryAt}
+use Rattle.pairs.specs.Pairs.{pairs}
+use Rattle.graph.specs.Counts.{entryAt}
 
 -- of two fully drawn graphs of equal order, g is the earlier
 abbrev pub EarlierGraph : Graph → Graph → Type 0

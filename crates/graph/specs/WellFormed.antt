@@ -1,14 +1,15 @@
 -- When a graph value is well formed: as facts, and as the test that the code makes.
-use Prim.Native.Nat.{ℕ, _-_, _≤_, _<_, _^_}
+use Prim.Native.Nat.{ℕ, _≤_, _<_}
 use mathlib.Core.Path.{_≡_}
 use mathlib.Core.Bool.{Bool}
-use mathlib.Core.List.{List}
 use lib.ListN.{length}
-use lib.Dec.{leb, ltb, eqb}
-use Rattle.laws.specs.Test.{both, pick}
+use lib.Dec.{leb, eqb}
+use Rattle.laws.specs.Test.{both}
 use Rattle.laws.specs.UpTo.{allUpTo}
 use Rattle.graph.specs.declared.Graph.{Graph}
-use Rattle.graph.specs.Graph.{row, entry, entryIn, startAt}
+use Rattle.rows.specs.Rows.{startAt}
+use Rattle.rows.specs.Fits.{rowFits, startsFit}
+use Rattle.graph.specs.Graph.{entry}
 
 pub record WellFormed (g : Graph) : Type 0 where
   pub order-low : 1 ≤ g .order
@@ -27,22 +28,6 @@ pub record FullyDrawn (g : Graph) : Type 0 where
   pub known : (i j : ℕ) → entry g i j ≤ 1
 
 -- ---- the test
-
--- the entries at (i, j) and (j, i) agree, and no entry is both known and unknown
-unfoldable pub pairFits : List ℕ → List ℕ → ℕ → ℕ → Bool
-pairFits edges unknowns i j = both (eqb (entryIn edges unknowns i j) (entryIn edges unknowns j i)) (leb (entryIn edges unknowns i j) 2)
-
--- row i has nothing past the order, nothing on the diagonal, and fits the columns before it
-unfoldable pub rowFits : ℕ → List ℕ → List ℕ → ℕ → Bool
-rowFits order edges unknowns i =
-    both (ltb (row edges i) (2 ^ pick (leb i order) order 0))
-    (both (ltb (row unknowns i) (2 ^ pick (leb i order) order 0))
-    (both (eqb (entryIn edges unknowns i i) 0)
-    (allUpTo (pairFits edges unknowns i) (i - 1))))
-
--- vertex 1 starts a block, and no start lies past the order
-unfoldable pub startsFit : ℕ → ℕ → Bool
-startsFit order starts = both (eqb (startAt starts 1) 1) (ltb starts (2 ^ order))
 
 unfoldable pub orderFits : ℕ → Bool
 orderFits order = both (leb 1 order) (leb order 32)

@@ -3,8 +3,17 @@ ghost use mathlib.Core.Path.{_≡_};
 ghost use lib.ListN.{replicate};
 ghost use Rattle.graph.specs.WellFormed.{wellFormed, orderFits};
 ghost use Rattle.graph.specs.Answers.{isVertex, isPair, noGraph, changed, arrangement, readAnswer, setAnswer, countAnswer, degreeAnswer, relabelAnswer, composeAnswer, invertAnswer};
-
-pub mod inner;
+use arrangements::composed::composed_of;
+use arrangements::composed::inverse_of;
+use arrangements::moved::moved_rows;
+use arrangements::permitted::is_permitted;
+use arrangements::reordering::is_reordering;
+use rows::entries::entry_in;
+use rows::entries::mark;
+use rows::entries::ones_at;
+use rows::entries::ones_in;
+use rows::fits::rows_fit;
+use rows::fits::starts_fit;
 
 // A partially drawn graph. The row of vertex i stands at index i - 1, and vertex j is its bit j - 1; an entry is 1 where
 // its bit is set in edges, unknown where it is set in unknowns. In starts, bit v - 1 is set where vertex v starts a block.
@@ -107,8 +116,8 @@ impl Graph {
     {
         let order = self.order;
         if order_fits(order) {
-            if inner::starts_fit(order, self.starts) {
-                return inner::rows_fit(order, &self.edges, &self.unknowns);
+            if starts_fit(order, self.starts) {
+                return rows_fit(order, &self.edges, &self.unknowns);
             }
             return false;
         }
@@ -124,7 +133,7 @@ impl Graph {
                 return Reading {
                     refusal: 0,
                     place: 0,
-                    value: inner::entry_in(&self.edges, &self.unknowns, i, j),
+                    value: entry_in(&self.edges, &self.unknowns, i, j),
                 };
             }
             return Reading {
@@ -147,8 +156,8 @@ impl Graph {
         if self.is_well_formed() {
             if is_pair(self.order, i, j) {
                 if value <= 2 {
-                    inner::mark(&mut self.edges, i, j, value % 2);
-                    inner::mark(&mut self.unknowns, i, j, value / 2);
+                    mark(&mut self.edges, i, j, value % 2);
+                    mark(&mut self.unknowns, i, j, value / 2);
                     return answer(0, self);
                 }
                 return answer(9, self);
@@ -163,8 +172,8 @@ impl Graph {
         ensures { λ r. ⌜ r ≡ countAnswer self ⌝ }
     {
         if self.is_well_formed() {
-            let edges = inner::ones_in(&self.edges) / 2;
-            let unknowns = inner::ones_in(&self.unknowns) / 2;
+            let edges = ones_in(&self.edges) / 2;
+            let unknowns = ones_in(&self.unknowns) / 2;
             let pairs = self.order * (self.order - 1) / 2;
             return Totals {
                 refusal: 0,
@@ -192,7 +201,7 @@ impl Graph {
                 return Degree {
                     refusal: 0,
                     place: 0,
-                    edges: inner::ones_at(&self.edges, v),
+                    edges: ones_at(&self.edges, v),
                 };
             }
             return Degree {
@@ -215,9 +224,9 @@ impl Graph {
         if self.is_well_formed() {
             let order = self.order;
             let starts = self.starts;
-            if inner::is_permitted(order, starts, p) {
-                let edges = inner::moved_rows(&self.edges, &p, order);
-                let unknowns = inner::moved_rows(&self.unknowns, &p, order);
+            if is_permitted(order, starts, p) {
+                let edges = moved_rows(&self.edges, &p, order);
+                let unknowns = moved_rows(&self.unknowns, &p, order);
                 return answer(
                     0,
                     Graph {
@@ -272,9 +281,9 @@ pub fn compose(order: u32, p: [u8; 32], q: [u8; 32]) -> Arrangement
     ensures { λ r. ⌜ r ≡ composeAnswer order p q ⌝ }
 {
     if order_fits(order) {
-        if inner::is_reordering(order, p) {
-            if inner::is_reordering(order, q) {
-                return arranged(inner::composed_of(order, &p, &q));
+        if is_reordering(order, p) {
+            if is_reordering(order, q) {
+                return arranged(composed_of(order, &p, &q));
             }
             return unarranged(11, 0);
         }
@@ -288,8 +297,8 @@ pub fn invert(order: u32, p: [u8; 32]) -> Arrangement
     ensures { λ r. ⌜ r ≡ invertAnswer order p ⌝ }
 {
     if order_fits(order) {
-        if inner::is_reordering(order, p) {
-            return arranged(inner::inverse_of(order, &p));
+        if is_reordering(order, p) {
+            return arranged(inverse_of(order, &p));
         }
         return unarranged(11, 0);
     }

@@ -82,6 +82,10 @@ pub bit-of-high : (j k hi lo : ℕ) → lo < 2 ^ k → bit (hi * 2 ^ k + lo) (k 
 bit-of-high j k hi lo h =
     ap (λ (x : ℕ). x % 2) (sym (shr-shr (hi * 2 ^ k + lo) k j)) ∙ ap (λ (x : ℕ). x / 2 ^ j % 2) (high hi k h)
 
+-- a lower bit of a number is one of its remainder
+pub bit-of-rest : (x n k : ℕ) → k < n → bit (x % 2 ^ n) k ≡ bit x k
+bit-of-rest x n k h = sym (bit-of-low k n (x / 2 ^ n) (x % 2 ^ n) h) ∙ ap (λ (y : ℕ). bit y k) (split x n)
+
 -- ---- a number with one bit changed
 
 -- what is taken away is there

@@ -8,9 +8,11 @@ use Rattle.laws.specs.UpTo.{allUpTo, wordUpTo, listUpTo}
 use Rattle.laws.specs.Num.{num}
 use Rattle.laws.specs.First.{firstUpTo, orElse}
 use Rattle.graph.specs.declared.Graph.{Graph}
-use Rattle.graph.specs.Graph.{drawn, placed, mirrored}
-use Rattle.graph.specs.WellFormed.{wellFormed, orderFits, startsFit, rowFits, pairFits}
-use Rattle.graph.specs.Pairs.{pairs, fromRow, alongRow}
+use Rattle.graph.specs.Graph.{drawn}
+use Rattle.rows.specs.Rows.{placed, mirrored}
+use Rattle.graph.specs.WellFormed.{wellFormed, orderFits}
+use Rattle.rows.specs.Fits.{startsFit, rowFits, pairFits}
+use Rattle.pairs.specs.Pairs.{pairs, fromRow, alongRow}
 use Rattle.record.specs.Layout.{bitCount, byteCount}
 use Rattle.record.specs.Reading.{bitOf, orderIn, startIn, startsIn, numberedIn, entryIn, isRefused, refusedIn, padIn, graphIn}
 use Rattle.record.specs.Writing.{entryBit, recordBit, recordByte, recordOf}

@@ -4,7 +4,7 @@ pub mod FieldLaws
 pub mod SizeLaws
 pub mod PassLaws
 pub mod RecordCases
-pub mod MarkLaws
+pub mod LineLaws
 pub mod Accepted
 pub mod PairSearch
 pub mod WriteLaws

@@ -8,8 +8,8 @@ use native.Mathlib.Numerals.{add-one}
 use native.Mathlib.Omega.{arith}
 use lib.ListN.{length, getD, length-append, List·getD-append}
 use lib.Seq.{getD-append-add}
-use Rattle.graph.specs.Pairs.{Pair, pair, pairs, fromRow, alongRow, pairCount, pairOf}
-use Rattle.graph.proofs.PairLaws.{alongRow-length, pairs-length, fromRow-split}
+use Rattle.pairs.specs.Pairs.{Pair, pair, pairs, fromRow, alongRow, pairCount, pairOf}
+use Rattle.pairs.proofs.PairLaws.{alongRow-length, pairs-length, fromRow-split}
 use Rattle.record.specs.Writing.{IsPairOf}
 
 -- of the pairs from a row on, the one after so many is the pair with number m

@@ -1,13 +1,13 @@
--- What each pass of reading finds: the order, the block starts, the first refused entry, the padding.
-use Prim.Native.Nat.{ℕ, _+_, _-_, _*_, _^_, _≤_, _<_}
+-- What reading finds beside the entries: the order, the block starts, the padding.
+use Prim.Native.Nat.{ℕ, _+_, _-_, _*_, _/_, _%_, _^_, _≤_, _<_}
 use mathlib.Core.Path.{_≡_, refl, sym, ap, _∙_}
 use mathlib.Core.Bool.{Bool, true, false}
 use mathlib.Core.List.{List}
 use native.Mathlib.Nat.{lt-of-lt-of-le}
-use native.Mathlib.Numerals.{add-one}
 use native.Mathlib.Omega.{arith}
 use borrow.Author.Tests.{eq-eqb, ne-eqb}
 use lib.Dec.{eqb}
+use lib.ListN.{getD}
 use lib.Pow.{pow-mono}
 use mir.Val.{Fits}
 use mir.Syntax.{w32}
@@ -16,12 +16,9 @@ use Rattle.laws.specs.TestLaws.{pick-true, pick-false}
 use Rattle.laws.specs.UpTo.{wordUpTo}
 use Rattle.laws.specs.UpToLaws.{word-below}
 use Rattle.laws.specs.Loops.{word-turns, word-done}
-use Rattle.laws.specs.Num.{num}
-use Rattle.laws.specs.First.{firstUpTo, first-more, first-stop}
-use Rattle.graph.specs.Pairs.{pairCount}
-use Rattle.record.specs.Layout.{entryPlace, bitCount, byteCount}
-use Rattle.record.specs.Reading.{bitOf, startIn, startsIn, numberedIn, isRefused, refusedIn, padIn}
-use Rattle.record.proofs.BitLaws.{bit-small}
+use Rattle.record.specs.Layout.{bitCount, byteCount}
+use Rattle.record.specs.Reading.{bitOf, orderIn, startIn, startsIn, padIn}
+use Rattle.record.proofs.BitLaws.{bit-small, first-bits, last-bits}
 
 -- ---- words
 
@@ -68,37 +65,21 @@ pub starts-done : (f : ℕ → ℕ) (m n w : ℕ) → w ≡ wordUpTo (startIn f)
 unfolding startsIn
 starts-done f m n w e l h = word-done (startIn f) m n w e l h
 
--- ---- refused entries
+-- ---- the order and the padding
 
--- the code refuses 11
-pub refused-is : (f : ℕ → ℕ) (n m place r : ℕ) → place ≡ entryPlace n m → r ≡ num f place 2 → eqb r 3 ≡ isRefused f n m
-unfolding isRefused numberedIn
-refused-is f n m place r is-place e = ap (λ (x : ℕ). eqb x 3) (e ∙ ap (λ (a : ℕ). num f a 2) is-place)
+-- the order is what the first byte's 6 highest bits make
+pub order-is : (s : List ℕ) (x : ℕ) → x ≡ getD s 0 0 → x < 256 → x / 4 ≡ orderIn (bitOf s)
+unfolding orderIn
+order-is s x is-x h = sym (first-bits s x is-x h)
 
--- before the first pair none is refused
-pub refused-starts : (f : ℕ → ℕ) (n : ℕ) → firstUpTo (isRefused f n) 0 ≡ 0
-unfolding firstUpTo
-refused-starts f n = refl
+-- there is a last byte
+pub some-bytes : (n b : ℕ) → b ≡ byteCount n → 1 ≤ b
+unfolding byteCount bitCount
+some-bytes n b e = omega arith
 
--- nor after one that is not
-pub refused-more : (f : ℕ → ℕ) (n m : ℕ) (b : Bool) → firstUpTo (isRefused f n) m ≡ 0 → b ≡ isRefused f n (m + 1) → b ≡ false → firstUpTo (isRefused f n) (m + 1) ≡ 0
-refused-more f n m b none is-b fails = rw add-one (first-more (isRefused f n) m none (rw (← add-one) (sym is-b ∙ fails)))
-
--- the first that is refused is found
-pub refused-found : (f : ℕ → ℕ) (n m count : ℕ) (b : Bool) → firstUpTo (isRefused f n) m ≡ 0 → b ≡ isRefused f n (m + 1) → b ≡ true → m < count → count ≡ pairCount n
-    → m + 1 ≡ refusedIn f n
-unfolding refusedIn
-refused-found f n m count b none is-b holds l is-count =
-    rw (add-one, ← is-count) (sym (first-stop (isRefused f n) count m none (rw (← add-one) (sym is-b ∙ holds)) l))
-
--- after the last pair there is none
-pub refused-none : (f : ℕ → ℕ) (n m count : ℕ) → firstUpTo (isRefused f n) m ≡ 0 → m ≤ count → count ≤ m → count ≡ pairCount n → 0 ≡ refusedIn f n
-unfolding refusedIn
-refused-none f n m count none l h is-count =
-    let e : m ≡ pairCount n = omega arith in
-    sym none ∙ ap (firstUpTo (isRefused f n)) e
-
--- ---- the padding
+-- within the bytes
+pub last-within : (n b m : ℕ) → b ≡ byteCount n → byteCount n ≤ m → b - 1 < m
+last-within n b m e h = omega (arith, some-bytes n b e)
 
 -- fewer than 8 bits are left of the last byte
 pub pad-room : (n u b : ℕ) → u ≡ bitCount n → b ≡ byteCount n → u ≤ 8 * b
@@ -106,11 +87,15 @@ unfolding byteCount
 pad-room n u b e d = omega arith
 
 -- and at most 7
-pub pad-short : (n u b : ℕ) → u ≡ bitCount n → b ≡ byteCount n → 8 * b - u ≤ 7
+pub pad-short : (n u b : ℕ) → u ≡ bitCount n → b ≡ byteCount n → 8 * b - u < 8
 unfolding byteCount
 pad-short n u b e d = omega arith
 
 -- they are the padding
-pub pad-is : (f : ℕ → ℕ) (n u b r : ℕ) → u ≡ bitCount n → b ≡ byteCount n → r ≡ num f u (8 * b - u) → r ≡ padIn f n
+pub pad-is : (s : List ℕ) (n u b x p : ℕ) → u ≡ bitCount n → b ≡ byteCount n → x ≡ getD s (b - 1) 0 → p ≡ 2 ^ (8 * b - u) → x % p ≡ padIn (bitOf s) n
 unfolding padIn
-pad-is f n u b r e d is-r = rw (← e, ← d) is-r
+pad-is s n u b x p e d is-x is-p =
+    let l : 1 ≤ b = some-bytes n b d in
+    let short : 8 * b - u < 8 = pad-short n u b e d in
+    let room : u ≤ 8 * b = pad-room n u b e d in
+    rw (← e, ← d, is-p) (sym (last-bits s (b - 1) u (8 * b - u) x (omega arith) (omega arith) is-x))

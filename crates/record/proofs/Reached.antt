@@ -17,9 +17,11 @@ use Rattle.laws.specs.UpToLaws.{list-length}
 use lib.Seq.{drop-append-add, drop-drop}
 use Rattle.laws.specs.Num.{num, num-below, num-of-zeros}
 use Rattle.graph.specs.declared.Graph.{Graph}
-use Rattle.graph.specs.Graph.{startAt, entryIn, entry}
-use Rattle.graph.specs.Pairs.{pairCount, number, pairOf, pair, entryAt, Pair}
-use Rattle.graph.proofs.PairLaws.{number-first, number-along, number-next-row, number-low, number-high, pairOf-number}
+use Rattle.rows.specs.Rows.{startAt, entryIn}
+use Rattle.graph.specs.Graph.{entry}
+use Rattle.pairs.specs.Pairs.{pairCount, number, pairOf, pair, Pair}
+use Rattle.graph.specs.Counts.{entryAt}
+use Rattle.pairs.proofs.PairLaws.{number-first, number-along, number-next-row, number-low, number-high, pairOf-number}
 use Rattle.record.specs.Layout.{startPlace, entryPlace, bitCount, byteCount}
 use Rattle.record.specs.Reading.{orderIn, numberedIn}
 use Rattle.record.specs.Writing.{recordBit, recordByte, recordOf}

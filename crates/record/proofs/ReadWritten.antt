@@ -16,9 +16,10 @@ use Rattle.laws.specs.UpToLaws.{word-bit, word-past}
 use Rattle.graph.specs.Graph.{drawn}
 use Rattle.graph.specs.Answers.{noGraph}
 use Rattle.graph.specs.WellFormed.{WellFormed}
-use Rattle.graph.specs.Pairs.{Pair, pairCount, number, pairOf, entryAt}
-use Rattle.graph.proofs.PairLaws.{Between, number-low, number-high, number-pairOf, pairOf-between}
-use Rattle.graph.proofs.Mirrored.{mirrored-above}
+use Rattle.pairs.specs.Pairs.{Pair, pairCount, number, pairOf}
+use Rattle.graph.specs.Counts.{entryAt}
+use Rattle.pairs.proofs.PairLaws.{Between, number-low, number-high, number-pairOf, pairOf-between}
+use Rattle.rows.proofs.Mirrored.{mirrored-above}
 use Rattle.graph.proofs.Drawn.{drawn-entry, drawn-formed}
 use Rattle.record.specs.declared.Extent.{Extent}
 use Rattle.record.specs.Layout.{startPlace, entryPlace, bitCount, byteCount}

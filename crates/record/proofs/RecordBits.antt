@@ -8,8 +8,9 @@ use Rattle.laws.specs.Bit.{bit}
 use Rattle.laws.specs.UpToLaws.{list-length, list-at}
 use Rattle.laws.specs.Num.{num, num-own, num-bit}
 use Rattle.graph.specs.declared.Graph.{Graph}
-use Rattle.graph.specs.Graph.{startAt}
-use Rattle.graph.specs.Pairs.{pairCount, pairOf, entryAt}
+use Rattle.rows.specs.Rows.{startAt}
+use Rattle.pairs.specs.Pairs.{pairCount, pairOf}
+use Rattle.graph.specs.Counts.{entryAt}
 use Rattle.record.specs.Layout.{startPlace, entryPlace, bitCount, byteCount}
 use Rattle.record.specs.Reading.{bitOf, orderIn, numberedIn}
 use Rattle.record.specs.Writing.{entryBit, recordBit, recordByte, recordOf}

@@ -14,7 +14,7 @@ use Rattle.laws.specs.First.{first-is}
 use Rattle.graph.specs.declared.Graph.{Graph}
 use Rattle.graph.specs.Answers.{noGraph}
 use Rattle.graph.specs.WellFormed.{wellFormed, orderFits}
-use Rattle.graph.specs.Pairs.{pairCount}
+use Rattle.pairs.specs.Pairs.{pairCount}
 use Rattle.record.specs.declared.Extent.{Extent}
 use Rattle.record.specs.Layout.{bitCount, byteCount}
 use Rattle.record.specs.Reading.{bitOf, orderIn, numberedIn, isRefused, refusedIn, padIn, graphIn}

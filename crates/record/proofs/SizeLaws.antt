@@ -9,11 +9,11 @@ use mir.Val.{Fits}
 use mir.Syntax.{w32}
 use Rattle.laws.specs.Test.{both, unless}
 use Rattle.graph.specs.WellFormed.{orderFits}
-use Rattle.graph.specs.Pairs.{pairCount}
+use Rattle.pairs.specs.Pairs.{pairCount}
 use Rattle.graph.proofs.Formed.{order-in-range}
-use Rattle.graph.proofs.PairLaws.{pairCount-suc}
+use Rattle.pairs.proofs.PairLaws.{pairCount-suc}
 use Rattle.record.specs.declared.Extent.{Extent}
-use Rattle.record.specs.Layout.{bitCount, byteCount}
+use Rattle.record.specs.Layout.{cell, bitCount, byteCount}
 use Rattle.record.specs.Answers.{extent, sizeAnswer}
 
 -- two small numbers have a small product
@@ -33,6 +33,14 @@ bits-counted n p e = rw e
 pub bytes-counted : (n b : ℕ) → b ≡ bitCount n → (b + 7) / 8 ≡ byteCount n
 unfolding byteCount
 bytes-counted n b e = rw e
+
+-- the place of the first entry of a row
+pub line-counted : (n i p : ℕ) → p ≡ (i - 1) * (2 * n - i) → 6 + (n - 1) + 2 * (p / 2) ≡ cell n i (i + 1)
+unfolding cell
+line-counted n i p e = rw e (along ((i - 1) * (2 * n - i) / 2))
+  where
+    along : (k : ℕ) → 6 + (n - 1) + 2 * k ≡ 6 + (n - 1) + 2 * (k + (i + 1 - i) - 1)
+    along k = omega arith
 
 -- ---- the answer in each of its cases
 

@@ -16,8 +16,10 @@ use Rattle.laws.specs.UpTo.{listUpTo}
 use Rattle.laws.specs.UpToLaws.{list-length}
 use Rattle.laws.specs.Num.{num, num-below}
 use Rattle.graph.specs.declared.Graph.{Graph}
-use Rattle.graph.specs.Graph.{entry, entryIn}
-use Rattle.graph.specs.Pairs.{pairCount, pairOf, entryAt}
+use Rattle.graph.specs.Graph.{entry}
+use Rattle.rows.specs.Rows.{entryIn}
+use Rattle.pairs.specs.Pairs.{pairCount, pairOf}
+use Rattle.graph.specs.Counts.{entryAt}
 use Rattle.record.specs.Layout.{entryPlace, bitCount, byteCount}
 use Rattle.record.specs.Writing.{IsPairOf, entryBit, recordBit, recordByte, recordOf}
 use Rattle.record.proofs.BitLaws.{number-turn}

@@ -16,10 +16,12 @@ use Rattle.laws.specs.First.{none-first}
 use Rattle.laws.specs.Bit.{bit}
 use Rattle.laws.specs.UpToLaws.{word-of-bits}
 use Rattle.graph.specs.declared.Graph.{Graph}
-use Rattle.graph.specs.Graph.{entry, startAt, drawn}
+use Rattle.graph.specs.Graph.{entry, drawn}
+use Rattle.rows.specs.Rows.{startAt}
 use Rattle.graph.specs.WellFormed.{WellFormed, wellFormed}
-use Rattle.graph.specs.Pairs.{pairCount, number, pairOf, entryAt}
-use Rattle.graph.proofs.PairLaws.{pairOf-number, number-low, number-high}
+use Rattle.pairs.specs.Pairs.{pairCount, number, pairOf}
+use Rattle.graph.specs.Counts.{entryAt}
+use Rattle.pairs.proofs.PairLaws.{pairOf-number, number-low, number-high}
 use Rattle.graph.proofs.Rows.{starts-below}
 use Rattle.graph.proofs.Formed.{formed}
 use Rattle.graph.proofs.Drawn.{drawn-same, drawn-itself}

@@ -6,3 +6,4 @@ pub mod Marks
 pub mod Reader
 pub mod Pushed
 pub mod Reached
+pub mod Looked

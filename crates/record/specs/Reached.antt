@@ -6,18 +6,9 @@ use lib.ListN.{length, drop}
 use Rattle.laws.specs.UpTo.{listUpTo}
 use Rattle.laws.specs.Num.{num}
 use Rattle.graph.specs.declared.Graph.{Graph}
-use Rattle.graph.specs.Pairs.{number}
-use Rattle.record.specs.Layout.{startPlace, entryPlace, byteCount}
+use Rattle.record.specs.Layout.{byteCount}
 use Rattle.record.specs.Writing.{recordBit, recordByte}
 use Rattle.record.specs.declared.writing.Pen.{Pen}
-
--- the place of the start of vertex v
-unfoldable pub begin : ℕ → ℕ
-begin v = startPlace v
-
--- the place of the entry of (i, j)
-unfoldable pub cell : ℕ → ℕ → ℕ → ℕ
-cell n i j = entryPlace n (number n i j)
 
 -- the bits before a place are stored in o, which was d, or wait in the pen p
 pub record Reached (g : Graph) (d o : List ℕ) (p : Pen) (place : ℕ) : Type 0 where

@@ -10,7 +10,7 @@ use Rattle.laws.specs.Num.{num}
 use Rattle.laws.specs.First.{firstUpTo}
 use Rattle.graph.specs.declared.Graph.{Graph}
 use Rattle.graph.specs.Graph.{drawn}
-use Rattle.graph.specs.Pairs.{pairCount, number}
+use Rattle.pairs.specs.Pairs.{pairCount, number}
 use Rattle.record.specs.Layout.{startPlace, entryPlace, bitCount, byteCount}
 
 -- the bit at place k of the bytes s, the most significant of a byte first; 0 past their end

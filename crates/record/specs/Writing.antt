@@ -8,8 +8,9 @@ use Rattle.laws.specs.Bit.{bit}
 use Rattle.laws.specs.UpTo.{listUpTo}
 use Rattle.laws.specs.Num.{num}
 use Rattle.graph.specs.declared.Graph.{Graph}
-use Rattle.graph.specs.Graph.{startAt}
-use Rattle.graph.specs.Pairs.{pairOf, entryAt}
+use Rattle.rows.specs.Rows.{startAt}
+use Rattle.pairs.specs.Pairs.{pairOf}
+use Rattle.graph.specs.Counts.{entryAt}
 use Rattle.record.specs.Layout.{startPlace, entryPlace, bitCount, byteCount}
 
 -- bit t of the entries, counted from the first bit of the first pair

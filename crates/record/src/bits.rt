@@ -4,10 +4,31 @@ ghost use Prim.Native.Nat.{_+_, _≤_, _<_, _^_};
 ghost use Rattle.laws.specs.Num.{num};
 ghost use Rattle.record.specs.Reading.{bitOf};
 
-fn wide(byte: u8) -> u32
+// A byte as a wider number.
+pub(crate) fn wide(byte: u8) -> u32
     ensures { λ r. ⌜ (r ≡ byte) × (r < 256) ⌝ }
 {
     byte as u32
+}
+
+// 2 to the k.
+pub(crate) fn power(k: u32) -> u32
+    requires { ⌜ k < 8 ⌝ }
+    ensures { λ r. ⌜ (r ≡ 2 ^ k) × (1 ≤ r) ⌝ }
+{
+    1u32 << k
+}
+
+// The bit at a place, 0 past the bytes.
+pub(crate) fn bit_at(bytes: &[u8], place: usize) -> u32
+    ensures { λ r. ⌜ (r ≡ bitOf (now (bytes .entry)) place) × (r ≤ 1) ⌝ }
+{
+    let byte = place / 8;
+    if byte < bytes.len() {
+        (wide(bytes[byte]) >> (7 - place % 8)) % 2
+    } else {
+        0
+    }
 }
 
 // The bit that stands ahead bits after a place, 0 past the bytes.

@@ -9,7 +9,8 @@ mod writing;
 use bits::number_at;
 use graph::Graph;
 use layout::byte_count;
-use reading::first_refused;
+use reading::Entries;
+use reading::entries_of;
 use reading::graph_of;
 use reading::no_graph;
 use reading::order_of;
@@ -18,7 +19,8 @@ use writing::put;
 ghost use mathlib.Core.Path.{_≡_};
 ghost use Prim.Native.Nat.{_≤_};
 ghost use lib.ListN.{length};
-ghost use Rattle.record.specs.Answers.{fieldAnswer, sizeAnswer, recordAt, readAnswer, restOf, writeAnswer, bufferAfter};
+ghost use Rattle.record.specs.Looked.{IsLooked};
+ghost use Rattle.record.specs.Answers.{extent, fieldAnswer, sizeAnswer, recordAt, readAnswer, restOf, writeAnswer, bufferAfter};
 
 // A field that was read, or why not.
 pub struct Value {
@@ -108,46 +110,68 @@ pub fn size(order: u32) -> Extent
     }
 }
 
-// How many bytes the record at the start of these takes, or why it is refused, as reading refuses.
-pub fn record_at(bytes: &[u8]) -> Extent
-    ensures { λ r. ⌜ (r ≡ recordAt (now (bytes .entry))) × (r .bytes ≤ length (now (bytes .entry))) ⌝ }
+// A record that was looked at: how many bytes it takes or why it is refused, its order, and its entries.
+struct Looked {
+    found: Extent,
+    order: u32,
+    entries: Entries,
+}
+
+// A record that is refused, of which nothing more is told.
+fn nothing_read(refusal: u32, place: usize) -> Looked
+    ensures { λ r. ⌜ r .found ≡ extent refusal place 0 ⌝ }
+{
+    Looked {
+        found: Extent {
+            refusal,
+            place,
+            bytes: 0,
+        },
+        order: 0,
+        entries: Entries {
+            refused: 0,
+            unknowns: [0u32; 32],
+            edges: [0u32; 32],
+        },
+    }
+}
+
+// Looks at the record at the start of these bytes, in one pass along its entries.
+fn look(bytes: &[u8]) -> Looked
+    ensures { λ r. ⌜ IsLooked (now (bytes .entry)) r ⌝ }
 {
     let given = bytes.len();
     if given < 1 {
-        return Extent {
-            refusal: 1,
-            place: given,
-            bytes: 0,
-        };
+        return nothing_read(1, given);
     }
     let order = order_of(bytes);
     let whole = size(order);
     if whole.refusal != 0 {
-        return whole;
+        return nothing_read(whole.refusal, whole.place);
     }
     if given < whole.bytes {
-        return Extent {
-            refusal: 1,
-            place: given,
-            bytes: 0,
-        };
+        return nothing_read(1, given);
     }
-    let refused = first_refused(bytes, order);
-    if refused != 0 {
-        return Extent {
-            refusal: 3,
-            place: refused as usize,
-            bytes: 0,
-        };
+    let entries = entries_of(bytes, order);
+    if entries.refused != 0 {
+        return nothing_read(3, entries.refused as usize);
     }
     if pad_of(bytes, order) != 0 {
-        return Extent {
-            refusal: 4,
-            place: 0,
-            bytes: 0,
-        };
+        return nothing_read(4, 0);
     }
-    whole
+    Looked {
+        found: whole,
+        order,
+        entries,
+    }
+}
+
+// How many bytes the record at the start of these takes, or why it is refused, as reading refuses.
+pub fn record_at(bytes: &[u8]) -> Extent
+    ensures { λ r. ⌜ (r ≡ recordAt (now (bytes .entry))) × (r .bytes ≤ length (now (bytes .entry))) ⌝ }
+{
+    let looked = look(bytes);
+    looked.found
 }
 
 // The graph whose record these bytes begin with.
@@ -157,9 +181,11 @@ pub fn record_at(bytes: &[u8]) -> Extent
 pub fn read(bytes: &[u8]) -> Record
     ensures { λ r. ⌜ r ≡ readAnswer (now (bytes .entry)) ⌝ }
 {
-    let found = record_at(bytes);
+    let looked = look(bytes);
+    let found = looked.found;
     if found.refusal == 0 {
-        let graph = graph_of(bytes);
+        let entries = looked.entries;
+        let graph = graph_of(bytes, looked.order, entries);
         return Record {
             refusal: found.refusal,
             place: found.place,

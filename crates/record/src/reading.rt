@@ -1,25 +1,42 @@
-// The passes of reading: each finds one part of a record that starts at the first of these bytes.
-use crate::bits::bit_after;
-use crate::bits::number_at;
+// The parts of a record that starts at the first of these bytes.
+use crate::bits::bit_at;
+use crate::bits::power;
+use crate::bits::wide;
 use crate::layout::bit_count;
 use crate::layout::byte_count;
-use crate::layout::entry_place;
+use crate::layout::line_place;
 use crate::layout::number_of;
-use crate::layout::pair_count;
 use graph::Graph;
-use graph::inner::weight;
+use rows::turned::both_halves;
+use rows::words::weight;
 ghost use mathlib.Core.Path.{_≡_};
 ghost use Prim.Native.Nat.{_≤_, _<_};
-ghost use Rattle.graph.specs.Graph.{mirrored};
+ghost use lib.ListN.{length};
+ghost use lib.Count.{trailingZeros};
 ghost use Rattle.graph.specs.Answers.{noGraph};
-ghost use Rattle.record.specs.Reading.{bitOf, orderIn, startIn, startsIn, isRefused, refusedIn, padIn, graphIn};
-ghost use Rattle.record.specs.Marks.{markIn, rowIn, rowsIn};
+ghost use Rattle.record.specs.Layout.{byteCount};
+ghost use Rattle.record.specs.Reading.{bitOf, orderIn, startIn, startsIn, padIn, graphIn};
+ghost use Rattle.record.specs.Marks.{IsLine, Scanned, Whole};
+
+// The entries of a row above the diagonal: a word of unknowns and one of edges.
+pub struct Line {
+    pub unknowns: u32,
+    pub edges: u32,
+}
+
+// The number of the first pair whose entry is refused, or 0, and where it is 0 the entries above the diagonal, row by row.
+pub struct Entries {
+    pub refused: u32,
+    pub unknowns: [u32; 32],
+    pub edges: [u32; 32],
+}
 
 // The order.
 pub(crate) fn order_of(bytes: &[u8]) -> u32
-    ensures { λ r. ⌜ (r ≡ orderIn (bitOf (now (bytes .entry)))) × (r < 128) ⌝ }
+    requires { ⌜ 1 ≤ length (now bytes) ⌝ }
+    ensures { λ r. ⌜ (r ≡ orderIn (bitOf (now (bytes .entry)))) × (r < 64) ⌝ }
 {
-    number_at(bytes, 0, 6)
+    wide(bytes[0]) / 4
 }
 
 // 1 where vertex v starts a block.
@@ -30,7 +47,7 @@ fn start_of(bytes: &[u8], v: u32) -> u32
     if v == 1 {
         1
     } else {
-        bit_after(bytes, 6, (v - 2) as usize)
+        bit_at(bytes, (6 + (v - 2)) as usize)
     }
 }
 
@@ -48,98 +65,81 @@ fn starts_of(bytes: &[u8], order: u32) -> u32
     starts
 }
 
-// Is the entry of pair m refused?
-fn is_refused(bytes: &[u8], order: u32, m: u32) -> bool
-    requires { ⌜ (1 ≤ order) × (order ≤ 32) × (1 ≤ m) × (m ≤ 2048) ⌝ }
-    ensures { λ r. ⌜ r ≡ isRefused (bitOf (now (bytes .entry))) order m ⌝ }
+// The entries of row i above the diagonal.
+fn line_of(bytes: &[u8], order: u32, i: u32) -> Line
+    requires { ⌜ (1 ≤ i) × (i ≤ order) × (order ≤ 32) ⌝ }
+    ensures { λ r. ⌜ IsLine (bitOf (now (bytes .entry))) order i r ⌝ }
 {
-    number_at(bytes, entry_place(order, m), 2) == 3
+    let mut unknowns = 0u32;
+    let mut edges = 0u32;
+    let mut place = line_place(order, i);
+    let mut j = i;
+    while j < order {
+        unknowns += weight(bit_at(bytes, place), j);
+        edges += weight(bit_at(bytes, place + 1), j);
+        place += 2;
+        j += 1;
+    }
+    Line { unknowns, edges }
 }
 
-// The number of the first pair whose entry is refused, 0 where there is none.
-pub(crate) fn first_refused(bytes: &[u8], order: u32) -> u32
-    requires { ⌜ (1 ≤ order) × (order ≤ 32) ⌝ }
-    ensures { λ r. ⌜ r ≡ refusedIn (bitOf (now (bytes .entry))) order ⌝ }
+// The place of the lowest bit of a mask.
+fn lowest(mask: u32) -> u32
+    ensures { λ r. ⌜ r ≡ trailingZeros 32 mask ⌝ }
 {
-    let count = pair_count(order);
-    let mut m = 0;
-    while m < count {
-        if is_refused(bytes, order, m + 1) {
-            return m + 1;
+    u32::trailing_zeros(mask)
+}
+
+// The entries, row by row, up to the first row that has a refused one.
+pub(crate) fn entries_of(bytes: &[u8], order: u32) -> Entries
+    requires { ⌜ (1 ≤ order) × (order ≤ 32) ⌝ }
+    ensures { λ r. ⌜ Scanned (bitOf (now (bytes .entry))) order r ⌝ }
+{
+    let mut unknowns = [0u32; 32];
+    let mut edges = [0u32; 32];
+    let mut i = 0;
+    while i < order {
+        let line = line_of(bytes, order, i + 1);
+        let refused = line.unknowns & line.edges;
+        if refused != 0 {
+            return Entries {
+                refused: number_of(order, i + 1, lowest(refused) + 1),
+                unknowns,
+                edges,
+            };
         }
-        m += 1;
+        let k = i as usize;
+        unknowns[k] = line.unknowns;
+        edges[k] = line.edges;
+        i += 1;
     }
-    0
+    Entries {
+        refused: 0,
+        unknowns,
+        edges,
+    }
 }
 
 // The bits after the last entry, as one number.
 pub(crate) fn pad_of(bytes: &[u8], order: u32) -> u32
-    requires { ⌜ (1 ≤ order) × (order ≤ 32) ⌝ }
+    requires { ⌜ (1 ≤ order) × (order ≤ 32) × (byteCount order ≤ length (now bytes)) ⌝ }
     ensures { λ r. ⌜ r ≡ padIn (bitOf (now (bytes .entry))) order ⌝ }
 {
-    let used = bit_count(order);
-    number_at(bytes, used, 8 * byte_count(order) - used)
+    let taken = byte_count(order);
+    let left = 8 * taken - bit_count(order);
+    let last = taken - 1;
+    wide(bytes[last]) % power(left as u32)
 }
 
-// The first bit, at 0, or the second, at 1, of the entry of the pair (i, j).
-fn mark_of(bytes: &[u8], order: u32, at: usize, i: u32, j: u32) -> u32
-    requires { ⌜ (at ≤ 1) × (1 ≤ i) × (i < j) × (j ≤ order) × (order ≤ 32) ⌝ }
-    ensures { λ r. ⌜ (r ≡ markIn (bitOf (now (bytes .entry))) order at i j) × (r ≤ 1) ⌝ }
-{
-    bit_after(bytes, entry_place(order, number_of(order, i, j)), at)
-}
-
-// The same in both halves, 0 on the diagonal.
-fn mirrored_mark(bytes: &[u8], order: u32, at: usize, i: u32, j: u32) -> u32
-    requires { ⌜ (at ≤ 1) × (1 ≤ i) × (i ≤ order) × (1 ≤ j) × (j ≤ order) × (order ≤ 32) ⌝ }
-    ensures { λ r. ⌜ (r ≡ mirrored (markIn (bitOf (now (bytes .entry))) order at) i j) × (r ≤ 1) ⌝ }
-{
-    if i < j {
-        return mark_of(bytes, order, at, i, j);
-    }
-    if j < i {
-        return mark_of(bytes, order, at, j, i);
-    }
-    0
-}
-
-// These bits along row i.
-fn row_of(bytes: &[u8], order: u32, at: usize, i: u32) -> u32
-    requires { ⌜ (at ≤ 1) × (1 ≤ i) × (i ≤ order) × (order ≤ 32) ⌝ }
-    ensures { λ r. ⌜ r ≡ rowIn (bitOf (now (bytes .entry))) order at i ⌝ }
-{
-    let mut row = 0;
-    let mut j = 0;
-    while j < order {
-        row += weight(mirrored_mark(bytes, order, at, i, j + 1), j);
-        j += 1;
-    }
-    row
-}
-
-// The rows of unknowns, at 0, or of edges, at 1.
-fn rows_of(bytes: &[u8], order: u32, at: usize) -> [u32; 32]
-    requires { ⌜ (at ≤ 1) × (order ≤ 32) ⌝ }
-    ensures { λ r. ⌜ r ≡ rowsIn (bitOf (now (bytes .entry))) order at ⌝ }
-{
-    let mut rows = [0u32; 32];
-    let mut i = 0;
-    while i < order {
-        let k = i as usize;
-        rows[k] = row_of(bytes, order, at, i + 1);
-        i += 1;
-    }
-    rows
-}
-
-// The graph of a record that was checked.
-pub(crate) fn graph_of(bytes: &[u8]) -> Graph
-    requires { ⌜ orderIn (bitOf (now bytes)) ≤ 32 ⌝ }
+// The graph of a record that was checked, from its entries above the diagonal.
+pub(crate) fn graph_of(bytes: &[u8], order: u32, entries: Entries) -> Graph
+    requires { ⌜ (order ≤ 32) × (order ≡ orderIn (bitOf (now bytes))) × Whole (bitOf (now bytes)) order entries ⌝ }
     ensures { λ r. ⌜ r ≡ graphIn (bitOf (now (bytes .entry))) ⌝ }
 {
-    let order = order_of(bytes);
-    let edges = rows_of(bytes, order, 1);
-    let unknowns = rows_of(bytes, order, 0);
+    let above = entries.edges;
+    let edges = both_halves(&above);
+    let others = entries.unknowns;
+    let unknowns = both_halves(&others);
     let starts = starts_of(bytes, order);
     Graph {
         order,

@@ -1,14 +1,15 @@
 // The record of a graph, written field by field.
 ghost use mathlib.Core.Path.{_≡_};
 ghost use mathlib.Core.List.{_++_};
-ghost use Prim.Native.Nat.{_+_, _-_, _*_, _≤_, _<_, _^_};
+ghost use Prim.Native.Nat.{_+_, _-_, _*_, _≤_, _<_};
 ghost use lib.ListN.{length, drop};
-ghost use Rattle.graph.specs.Graph.{startAt};
+ghost use Rattle.rows.specs.Rows.{startAt};
 ghost use Rattle.laws.specs.Bit.{bit};
-ghost use Rattle.record.specs.Layout.{bitCount, byteCount};
+ghost use Rattle.record.specs.Layout.{bitCount, byteCount, begin, cell};
 ghost use Rattle.record.specs.Writing.{recordOf};
 ghost use Rattle.record.specs.Pushed.{IsPushed};
-ghost use Rattle.record.specs.Reached.{Reached, begin, cell};
+ghost use Rattle.record.specs.Reached.{Reached};
+use crate::bits::power;
 use graph::Graph;
 
 // How many bytes are stored, how many bits wait for the next one, and these bits as a number.
@@ -16,14 +17,6 @@ struct Pen {
     stored: usize,
     have: u32,
     kept: u32,
-}
-
-// 2 to the k.
-fn power(k: u32) -> u32
-    requires { ⌜ k < 8 ⌝ }
-    ensures { λ r. ⌜ (r ≡ 2 ^ k) × (1 ≤ r) ⌝ }
-{
-    1u32 << k
 }
 
 // One more field of w bits. A byte that is full is stored.

@@ -14,9 +14,9 @@ use Rattle.laws.specs.BitLaws.{bit-of-zero, bit-of-and, bit-of-power-other}
 use Rattle.laws.specs.Masks.{bit-of-without}
 use Rattle.laws.specs.UpTo.{wordUpTo}
 use Rattle.laws.specs.UpToLaws.{word-bit}
-use Rattle.graph.specs.Graph.{row}
-use Rattle.graph.specs.Arrangement.{at}
-use Rattle.graph.specs.Pairs.{Pair, pair, alongRow}
+use Rattle.rows.specs.Rows.{row}
+use Rattle.arrangements.specs.Arrangement.{at}
+use Rattle.pairs.specs.Pairs.{Pair, pair, alongRow}
 use Rattle.search.specs.Code.{allMarks, marksOf, turnAt, walkCode, Arranged, Later, Alike}
 use Rattle.search.proofs.CodeTurns.{turn-same, turn-is, code-rest}
 

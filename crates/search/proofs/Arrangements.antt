@@ -19,12 +19,14 @@ use Rattle.beginnings.specs.Beginning.{Beginning}
 use Rattle.beginnings.specs.Order.{Before}
 use Rattle.beginnings.proofs.Order.{before-irrefl}
 use Rattle.graph.specs.declared.Graph.{Graph}
-use Rattle.graph.specs.Graph.{entry, blockOf}
+use Rattle.graph.specs.Graph.{entry}
+use Rattle.rows.specs.Rows.{blockOf}
 use Rattle.graph.specs.WellFormed.{WellFormed}
-use Rattle.graph.specs.Arrangement.{at, Reordering, Permitted}
-use Rattle.graph.specs.Pairs.{Pair, pair, pairs, entryAt}
-use Rattle.graph.proofs.Placed.{same-places}
-use Rattle.graph.proofs.PairLaws.{Between, pairs-given, pairs-has}
+use Rattle.arrangements.specs.Arrangement.{at, Reordering, Permitted}
+use Rattle.pairs.specs.Pairs.{Pair, pair, pairs}
+use Rattle.graph.specs.Counts.{entryAt}
+use Rattle.rows.proofs.Placed.{same-places}
+use Rattle.pairs.proofs.PairLaws.{Between, pairs-given, pairs-has}
 use Rattle.search.specs.Judging.{samePair, pairOfTwo, image, walkAll, literalsOf, clauseOf, padded}
 
 -- ---- one pair or two

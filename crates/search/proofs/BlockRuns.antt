@@ -17,8 +17,8 @@ use Rattle.laws.specs.TestLaws.{pick-true, pick-false}
 use Rattle.laws.specs.Bit.{bit}
 use Rattle.laws.specs.BitLaws.{bit-small, bit-of-zero, bits-past, below-of-bits, same-word, bit-of-low, bit-of-high, bit-of-or, bit-of-power, bit-of-power-other}
 use Rattle.laws.specs.Masks.{not-empty, lowest-set}
-use Rattle.graph.specs.Graph.{blockOf, startAt}
-use Rattle.graph.proofs.Blocks.{NoStart, one-block}
+use Rattle.rows.specs.Rows.{blockOf, startAt}
+use Rattle.arrangements.proofs.Blocks.{NoStart, one-block}
 use Rattle.search.specs.Code.{allMarks}
 use Rattle.search.specs.Masks.{blockMask, Fresh}
 use Rattle.search.proofs.AlikeRows.{all-bits}

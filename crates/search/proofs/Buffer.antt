@@ -9,8 +9,8 @@ use lib.IntN.{ℤ}
 use lib.ListN.{length, drop, replicate, length-append, length-drop}
 use Rattle.walk.proofs.Rising.{clause-length}
 use Rattle.graph.specs.declared.Graph.{Graph}
-use Rattle.graph.specs.Pairs.{pairs, pairCount}
-use Rattle.graph.proofs.PairLaws.{pairs-length}
+use Rattle.pairs.specs.Pairs.{pairs, pairCount}
+use Rattle.pairs.proofs.PairLaws.{pairs-length}
 use Rattle.search.specs.declared.Verdict.{Verdict}
 use Rattle.search.specs.declared.Verdict.the-variants.{Smaller, Nothing, Cut, Refused}
 use Rattle.search.specs.declared.Judged.{Judged}

@@ -15,10 +15,11 @@ use Rattle.beginnings.proofs.Order.{before-irrefl, before-trans}
 use Rattle.beginnings.proofs.Completed.{completed-whole}
 use Rattle.beginnings.proofs.FirstCertificate.{none-certified, first-certificate, first-of-certificates, certificate-found, none-found}
 use Rattle.graph.specs.declared.Graph.{Graph}
-use Rattle.graph.specs.Graph.{blockOf}
+use Rattle.rows.specs.Rows.{blockOf}
 use Rattle.graph.specs.WellFormed.{WellFormed}
-use Rattle.graph.specs.Arrangement.{Permitted}
-use Rattle.graph.specs.Pairs.{Pair, pairs, entryAt}
+use Rattle.arrangements.specs.Arrangement.{Permitted}
+use Rattle.pairs.specs.Pairs.{Pair, pairs}
+use Rattle.graph.specs.Counts.{entryAt}
 use Rattle.search.specs.Judging.{samePair, image, walkAll, judgedOn, judged, found, stepsFor, padded, certificateOf}
 use Rattle.search.specs.Answer.{standingPair}
 use Rattle.search.proofs.Arrangements.{take-padded, permitted-length, permitted-beginning, permitted-padded, padded-permitted, before-padded, padded-walk}

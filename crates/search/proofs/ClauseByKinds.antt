@@ -20,12 +20,13 @@ use Rattle.walk.proofs.Reached.{literals-in-words}
 use Rattle.walk.proofs.Clause.{among-listed}
 use Rattle.graph.specs.declared.Graph.{Graph}
 use Rattle.graph.specs.WellFormed.{wellFormed}
-use Rattle.graph.specs.Arrangement.{at, Reordering, isReordering, isPermitted, inverse}
-use Rattle.graph.specs.Pairs.{Pair, pair, pairs, number, entryAt}
-use Rattle.graph.proofs.PairLaws.{Between, numberOf, pairs-given, pairs-has, number-one, number-next-row}
+use Rattle.arrangements.specs.Arrangement.{at, Reordering, isReordering, isPermitted, inverse}
+use Rattle.pairs.specs.Pairs.{Pair, pair, pairs, number}
+use Rattle.graph.specs.Counts.{entryAt}
+use Rattle.pairs.proofs.PairLaws.{Between, numberOf, pairs-given, pairs-has, number-one, number-next-row}
 use Rattle.graph.proofs.Formed.{formed}
-use Rattle.graph.proofs.Permits.{permitted, reordering-tested}
-use Rattle.graph.proofs.Composing.{inverse-before, inverse-reordering}
+use Rattle.arrangements.proofs.Permits.{permitted, reordering-tested}
+use Rattle.arrangements.proofs.Composing.{inverse-before, inverse-reordering}
 use Rattle.search.specs.Judging.{samePair, pairOfTwo, image, walkAll, literalsOf, clauseOf}
 use Rattle.search.specs.Code.{graphIn}
 use Rattle.search.specs.Clauses.{reached, kindAt, writtenFor, writtenAlong, Wrote}

@@ -13,11 +13,11 @@ use Rattle.laws.specs.Compared.{by-below, by-same}
 use Rattle.laws.specs.Bit.{bit}
 use Rattle.laws.specs.BitLaws.{bits-past, below-of-bits, bit-of-and, bit-of-or, bit-of-power}
 use Rattle.laws.specs.Masks.{bit-of-without}
-use Rattle.graph.specs.Graph.{row, entryIn}
-use Rattle.graph.specs.Arrangement.{at, Reordering, isReordering, inverse}
-use Rattle.graph.specs.Pairs.{Pair, pair}
-use Rattle.graph.proofs.Permits.{reordering-tested}
-use Rattle.graph.proofs.Composing.{inverse-before, inverse-reordering}
+use Rattle.rows.specs.Rows.{row, entryIn}
+use Rattle.arrangements.specs.Arrangement.{at, Reordering, isReordering, inverse}
+use Rattle.pairs.specs.Pairs.{Pair, pair}
+use Rattle.arrangements.proofs.Permits.{reordering-tested}
+use Rattle.arrangements.proofs.Composing.{inverse-before, inverse-reordering}
 use Rattle.search.specs.Judging.{samePair, pairOfTwo, image}
 use Rattle.search.specs.Code.{allMarks, marksOf, Within}
 use Rattle.search.specs.Clauses.{reached, kindAt, FirstIn, Before, Firsts, Sources, Ahead}

@@ -11,10 +11,10 @@ use borrow.Author.Tests.{eq-eqb, ne-eqb}
 use Rattle.laws.specs.Test.{pick}
 use Rattle.beginnings.specs.Beginning.{Beginning}
 use Rattle.beginnings.proofs.Follows.{Follows, follows-start, beginning-follows}
-use Rattle.graph.specs.Graph.{blockOf}
-use Rattle.graph.specs.Arrangement.{at}
-use Rattle.graph.specs.Pairs.{Pair, pair, alongRow, fromRow, pairs}
-use Rattle.graph.proofs.PairLaws.{fromRow-split}
+use Rattle.rows.specs.Rows.{blockOf}
+use Rattle.arrangements.specs.Arrangement.{at}
+use Rattle.pairs.specs.Pairs.{Pair, pair, alongRow, fromRow, pairs}
+use Rattle.pairs.proofs.PairLaws.{fromRow-split}
 use Rattle.search.specs.Masks.{usedMask}
 use Rattle.search.specs.Code.{firstPair, Within}
 use Rattle.search.proofs.MaskLaws.{used-more, used-below}

@@ -18,9 +18,9 @@ use Rattle.laws.specs.Compared.{by-same}
 use Rattle.laws.specs.Test.{pick}
 use Rattle.laws.specs.TestLaws.{holds-or-fails}
 use Rattle.walk.specs.Clause.{numbered}
-use Rattle.graph.specs.Graph.{entryIn}
-use Rattle.graph.specs.Arrangement.{at}
-use Rattle.graph.specs.Pairs.{Pair, pair}
+use Rattle.rows.specs.Rows.{entryIn}
+use Rattle.arrangements.specs.Arrangement.{at}
+use Rattle.pairs.specs.Pairs.{Pair, pair}
 use Rattle.search.specs.Judging.{samePair, pairOfTwo, image}
 use Rattle.search.specs.Clauses.{reached, kindBy, kindAt, writtenFor, Wrote}
 use Rattle.search.proofs.Images.{two-rising, two-falling}

@@ -21,12 +21,13 @@ use Rattle.beginnings.specs.Certificate.{completed}
 use Rattle.beginnings.proofs.Completed.{completed-whole}
 use Rattle.beginnings.proofs.FirstCertificate.{found-reached}
 use Rattle.graph.specs.declared.Graph.{Graph}
-use Rattle.graph.specs.Graph.{blockOf}
+use Rattle.rows.specs.Rows.{blockOf}
 use Rattle.graph.specs.WellFormed.{WellFormed, wellFormed}
-use Rattle.graph.specs.Arrangement.{at, Permitted, isPermitted}
-use Rattle.graph.specs.Pairs.{Pair, pair, pairs, pairCount, entryAt}
+use Rattle.arrangements.specs.Arrangement.{at, Permitted, isPermitted}
+use Rattle.pairs.specs.Pairs.{Pair, pair, pairs, pairCount}
+use Rattle.graph.specs.Counts.{entryAt}
 use Rattle.graph.proofs.Formed.{formed}
-use Rattle.graph.proofs.Permits.{permitted-tested}
+use Rattle.arrangements.proofs.Permits.{permitted-tested}
 use Rattle.search.specs.declared.Verdict.the-variants.{Smaller, Nothing, Cut, Refused}
 use Rattle.search.specs.declared.explore.Explored.{Explored}
 use Rattle.search.specs.declared.Judged.{Judged}

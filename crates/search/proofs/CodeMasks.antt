@@ -10,9 +10,9 @@ use lib.ListN.{set}
 use Rattle.laws.specs.Test.{pick}
 use Rattle.laws.specs.UpToLaws.{sum-longer, word-same}
 use Rattle.laws.specs.Loops.{sum-turns}
-use Rattle.graph.specs.Graph.{blockOf, startAt, placed}
-use Rattle.graph.proofs.CodeTests.{shifted}
-use Rattle.graph.proofs.CodePlaces.{placed-turns}
+use Rattle.rows.specs.Rows.{blockOf, startAt, placed}
+use Rattle.rows.proofs.CodeWords.{shifted}
+use Rattle.rows.proofs.Filled.{placed-turns}
 use Rattle.search.specs.Masks.{sameBlock, blockMask, MaskOf, Fresh}
 
 pub power-is : (k : ℕ) → k < 32 → 1 * 2 ^ k % 2 ^ 32 ≡ 2 ^ k

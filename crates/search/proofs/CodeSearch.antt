@@ -13,8 +13,8 @@ use lib.Pow.{pow-mono}
 use Rattle.laws.specs.Test.{pick}
 use Rattle.laws.specs.Bit.{bit}
 use Rattle.beginnings.specs.Search.{Found, cut, none, first, won}
-use Rattle.graph.specs.Graph.{row}
-use Rattle.graph.specs.Pairs.{fromRow}
+use Rattle.rows.specs.Rows.{row}
+use Rattle.pairs.specs.Pairs.{fromRow}
 use Rattle.graph.specs.WellFormed.{wellFormed}
 use Rattle.graph.proofs.Formed.{formed}
 use Rattle.search.specs.declared.explore.Explored.{Explored}

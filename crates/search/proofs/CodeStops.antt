@@ -10,7 +10,7 @@ use borrow.Author.Tests.{eq-eqb, ne-eqb}
 use Rattle.laws.specs.Test.{pick}
 use Rattle.laws.specs.Bit.{bit}
 use Rattle.laws.specs.Compared.{by-same}
-use Rattle.graph.specs.Graph.{row}
+use Rattle.rows.specs.Rows.{row}
 use Rattle.search.specs.Code.{allMarks, marksOf, ownMask, stopsAt, StopsFor, Stopped}
 
 -- ---- one place

@@ -8,10 +8,10 @@ use lib.Dec.{eqb}
 use borrow.Author.Tests.{eq-eqb, ne-eqb, lt-ltb, le-ltb}
 use Rattle.laws.specs.Test.{both, pick}
 use Rattle.laws.specs.Bit.{bit}
-use Rattle.graph.specs.Graph.{row}
-use Rattle.graph.specs.Arrangement.{at}
-use Rattle.graph.specs.Pairs.{Pair, pair, alongRow, fromRow}
-use Rattle.graph.proofs.PairLaws.{fromRow-split}
+use Rattle.rows.specs.Rows.{row}
+use Rattle.arrangements.specs.Arrangement.{at}
+use Rattle.pairs.specs.Pairs.{Pair, pair, alongRow, fromRow}
+use Rattle.pairs.proofs.PairLaws.{fromRow-split}
 use Rattle.search.specs.Judging.{samePair, pairOfTwo}
 use Rattle.search.specs.Code.{marksOf, turnBy, turnAt, walkCode, Within}
 

@@ -16,8 +16,8 @@ use Rattle.beginnings.specs.Certificate.{completed}
 use Rattle.beginnings.proofs.Children.{Child, child-of-mem}
 use Rattle.beginnings.proofs.Follows.{Follows, length-more, follows-append, beginning-follows, beginning-of}
 use Rattle.beginnings.proofs.Completed.{completed-none, completed-more, first-child, child-exists}
-use Rattle.graph.specs.Graph.{blockOf, placed}
-use Rattle.graph.proofs.Placed.{placed-at}
+use Rattle.rows.specs.Rows.{blockOf, placed}
+use Rattle.rows.proofs.Placed.{placed-at}
 use Rattle.search.specs.Judging.{padded}
 use Rattle.search.specs.Masks.{usedMask, blockMask}
 use Rattle.search.proofs.MaskLaws.{used-down, used-below, mask-children, mask-fits}

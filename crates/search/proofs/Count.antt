@@ -10,7 +10,7 @@ use Rattle.beginnings.specs.Search.{IsReached, NoneWon, FirstWon, reached, need
 use Rattle.beginnings.proofs.Reached.{reached-exactly, reached-rises, reached-unique}
 use Rattle.beginnings.proofs.Count.{none-or-first, through-none, through-first}
 use Rattle.graph.specs.declared.Graph.{Graph}
-use Rattle.graph.specs.Graph.{blockOf}
+use Rattle.rows.specs.Rows.{blockOf}
 use Rattle.search.specs.Judging.{judged, stepsFor}
 
 -- bs are exactly the beginnings of g all of whose shorter beginnings are open, in dictionary order

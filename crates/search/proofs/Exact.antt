@@ -12,9 +12,9 @@ use Rattle.laws.specs.TestLaws.{unless-true, unless-false, fails}
 use Rattle.beginnings.specs.Search.{Found, cut, none, first}
 use Rattle.beginnings.proofs.Steps.{cut-exactly, none-exactly, first-exactly, zero-cut}
 use Rattle.graph.specs.declared.Graph.{Graph}
-use Rattle.graph.specs.Graph.{blockOf}
+use Rattle.rows.specs.Rows.{blockOf}
 use Rattle.graph.specs.WellFormed.{WellFormed, wellFormed}
-use Rattle.graph.specs.Pairs.{Pair, pairCount}
+use Rattle.pairs.specs.Pairs.{Pair, pairCount}
 use Rattle.graph.proofs.Formed.{formed, tested, not-formed}
 use Rattle.search.specs.declared.Verdict.the-variants.{Smaller, Nothing, Cut, Refused}
 use Rattle.search.specs.declared.Judged.{Judged}

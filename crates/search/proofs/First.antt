@@ -5,7 +5,7 @@ use mathlib.Core.Path.{_≡_, refl, ap₂, subst}
 use lib.ListN.{length}
 use Rattle.graph.specs.declared.Graph.{Graph}
 use Rattle.graph.specs.WellFormed.{WellFormed}
-use Rattle.graph.specs.Pairs.{Pair, pair, pairCount}
+use Rattle.pairs.specs.Pairs.{Pair, pair, pairCount}
 use Rattle.search.specs.declared.Verdict.the-variants.{Smaller}
 use Rattle.search.specs.declared.Judged.{Judged}
 use Rattle.search.specs.Judging.{clauseOf, stepsFor}

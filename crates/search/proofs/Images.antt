@@ -11,10 +11,12 @@ use Rattle.laws.specs.TestLaws.{pick-true, pick-false}
 use Rattle.laws.specs.Each.{Each}
 use Rattle.graph.specs.declared.Graph.{Graph}
 use Rattle.graph.specs.WellFormed.{WellFormed}
-use Rattle.graph.specs.Arrangement.{at, Reordering, relabelled}
-use Rattle.graph.specs.Pairs.{Pair, pair, pairs, entryAt}
-use Rattle.graph.proofs.PairLaws.{Between, pairs-given}
-use Rattle.graph.proofs.Composing.{one-place}
+use Rattle.arrangements.specs.Arrangement.{at, Reordering}
+use Rattle.graph.specs.Graph.{relabelled}
+use Rattle.pairs.specs.Pairs.{Pair, pair, pairs}
+use Rattle.graph.specs.Counts.{entryAt}
+use Rattle.pairs.proofs.PairLaws.{Between, pairs-given}
+use Rattle.arrangements.proofs.Composing.{one-place}
 use Rattle.graph.proofs.Relabelling.{relabelled-entry}
 use Rattle.search.specs.Judging.{pairOfTwo, image}
 use Rattle.search.proofs.Arrangements.{entry-of-two}

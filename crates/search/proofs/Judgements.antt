@@ -19,11 +19,13 @@ use Rattle.beginnings.specs.Search
 use Rattle.beginnings.specs.Certificate.{Stays}
 use Rattle.beginnings.proofs.Follows.{length-more}
 use Rattle.graph.specs.declared.Graph.{Graph}
-use Rattle.graph.specs.Graph.{entry, blockOf}
+use Rattle.graph.specs.Graph.{entry}
+use Rattle.rows.specs.Rows.{blockOf}
 use Rattle.graph.specs.WellFormed.{WellFormed}
-use Rattle.graph.specs.Arrangement.{at}
-use Rattle.graph.specs.Pairs.{Pair, pair, alongRow, fromRow, pairs, entryAt}
-use Rattle.graph.proofs.PairLaws.{Along, along-given, alongRow-append, pairs-row-one, row-one-first}
+use Rattle.arrangements.specs.Arrangement.{at}
+use Rattle.pairs.specs.Pairs.{Pair, pair, alongRow, fromRow, pairs}
+use Rattle.graph.specs.Counts.{entryAt}
+use Rattle.pairs.proofs.PairLaws.{Along, along-given, alongRow-append, pairs-row-one, row-one-first}
 use Rattle.search.specs.Judging.{samePair, pairOfTwo, image, walkAll, judgedOn, judgementOf, judged}
 use Rattle.search.proofs.Arrangements.{samePair-tells, entry-of-two}
 

@@ -14,9 +14,10 @@ use Rattle.beginnings.specs.Search.{Judgement}
 use Rattle.beginnings.specs.Search
 use Rattle.graph.specs.declared.Graph.{Graph}
 use Rattle.graph.specs.WellFormed.{WellFormed}
-use Rattle.graph.specs.Arrangement.{at}
-use Rattle.graph.specs.Pairs.{Pair, pair, fromRow, entryAt}
-use Rattle.graph.proofs.PairLaws.{fromRow-given}
+use Rattle.arrangements.specs.Arrangement.{at}
+use Rattle.pairs.specs.Pairs.{Pair, pair, fromRow}
+use Rattle.graph.specs.Counts.{entryAt}
+use Rattle.pairs.proofs.PairLaws.{fromRow-given}
 use Rattle.search.specs.Judging.{samePair, image, judged, judgementOf}
 use Rattle.search.specs.Code.{codeOf, turnAt, walkCode}
 use Rattle.search.proofs.TurnCodes.{step-codes, turn-codes}

@@ -20,10 +20,12 @@ use Rattle.walk.proofs.Clause.{literal-stands, clause-written}
 use Rattle.walk.proofs.Rising.{clause-rising, clause-bounded}
 use Rattle.walk.proofs.Broken.{walk-clause-breaks}
 use Rattle.graph.specs.declared.Graph.{Graph}
-use Rattle.graph.specs.Graph.{placed, mirrored, drawn}
-use Rattle.graph.specs.Arrangement.{Reordering, placeOf, inverse}
-use Rattle.graph.specs.Pairs.{Pair, pair, alongRow, fromRow, pairs, pairCount, number, entryAt}
-use Rattle.graph.proofs.PairLaws.{Between, numberOf, pairs-given, pairs-has, pairs-length, split-number, before-smaller}
+use Rattle.rows.specs.Rows.{placed, mirrored}
+use Rattle.graph.specs.Graph.{drawn}
+use Rattle.arrangements.specs.Arrangement.{Reordering, placeOf, inverse}
+use Rattle.pairs.specs.Pairs.{Pair, pair, alongRow, fromRow, pairs, pairCount, number}
+use Rattle.graph.specs.Counts.{entryAt}
+use Rattle.pairs.proofs.PairLaws.{Between, numberOf, pairs-given, pairs-has, pairs-length, split-number, before-smaller}
 use Rattle.search.specs.Judging.{samePair, pairOfTwo, image, walkAll, literalsOf, clauseOf, padded}
 use Rattle.search.proofs.Arrangements.{samePair-tells, image-between, images-inside}
 use Rattle.search.proofs.Certificates.{Certified}

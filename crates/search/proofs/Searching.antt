@@ -13,10 +13,10 @@ use Rattle.beginnings.proofs.Children.{Child, child-of-mem}
 use Rattle.beginnings.proofs.Follows.{Follows, follows-start, beginning-of}
 use Rattle.beginnings.proofs.Loop.{shorter-take, loop-begins, loop-over, loop-climb}
 use Rattle.graph.specs.declared.Graph.{Graph}
-use Rattle.graph.specs.Graph.{blockOf, placed}
+use Rattle.rows.specs.Rows.{blockOf, placed}
 use Rattle.graph.specs.WellFormed.{WellFormed}
-use Rattle.graph.specs.Arrangement.{at}
-use Rattle.graph.proofs.Placed.{placed-at}
+use Rattle.arrangements.specs.Arrangement.{at}
+use Rattle.rows.proofs.Placed.{placed-at}
 use Rattle.search.specs.Judging.{judged, found}
 use Rattle.search.specs.Masks.{usedMask, blockMask}
 use Rattle.search.specs.Code.{StopsFor}

@@ -11,14 +11,15 @@ use Rattle.walk.specs.Earlier.{Earlier}
 use Rattle.walk.proofs.Sound.{won-full}
 use Rattle.walk.proofs.Order.{earlier-none, earlier-cases}
 use Rattle.graph.specs.declared.Graph.{Graph}
-use Rattle.graph.specs.Graph.{entry}
+use Rattle.graph.specs.Graph.{entry, relabelled}
 use Rattle.graph.specs.WellFormed.{WellFormed, FullyDrawn}
-use Rattle.graph.specs.Arrangement.{at, Reordering, Permitted, relabelled, composed}
-use Rattle.graph.specs.Pairs.{Pair, pairs, pairCount, entryAt}
+use Rattle.arrangements.specs.Arrangement.{at, Reordering, Permitted, composed}
+use Rattle.pairs.specs.Pairs.{Pair, pairs, pairCount}
+use Rattle.graph.specs.Counts.{entryAt}
 use Rattle.graph.specs.Order.{EarlierGraph}
-use Rattle.graph.proofs.Placed.{placed-at}
+use Rattle.rows.proofs.Placed.{placed-at}
 use Rattle.graph.proofs.Drawn.{same-graph}
-use Rattle.graph.proofs.Composing.{identity, identity-permitted, composed-at, composed-permitted}
+use Rattle.arrangements.proofs.Composing.{identity, identity-permitted, composed-at, composed-permitted}
 use Rattle.graph.proofs.Relabelling.{relabelled-order, relabelled-starts, relabelled-entry, relabelled-formed, relabelled-drawn}
 use Rattle.search.specs.declared.Judged.{Judged}
 use Rattle.search.specs.Judging.{image, walkAll, stepsFor}

@@ -13,8 +13,10 @@ use Rattle.walk.specs.Earlier.{Earlier, copy, LexLess}
 use Rattle.walk.proofs.Broken.{clause-sound}
 use Rattle.graph.specs.declared.Graph.{Graph}
 use Rattle.graph.specs.WellFormed.{WellFormed, FullyDrawn}
-use Rattle.graph.specs.Arrangement.{Permitted, relabelled}
-use Rattle.graph.specs.Pairs.{pairs, entryAt}
+use Rattle.arrangements.specs.Arrangement.{Permitted}
+use Rattle.graph.specs.Graph.{relabelled}
+use Rattle.pairs.specs.Pairs.{pairs}
+use Rattle.graph.specs.Counts.{entryAt}
 use Rattle.graph.specs.Order.{EarlierGraph, matrixWord}
 use Rattle.graph.proofs.Relabelling.{relabelled-order, relabelled-formed, relabelled-drawn}
 use Rattle.graph.proofs.OrderLaws.{same-order}

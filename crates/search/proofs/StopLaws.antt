@@ -17,10 +17,10 @@ use Rattle.laws.specs.Compared.{by-same}
 use Rattle.laws.specs.Masks.{bit-of-without}
 use Rattle.beginnings.specs.Search
 use Rattle.graph.specs.declared.Graph.{Graph}
-use Rattle.graph.specs.Graph.{row}
+use Rattle.rows.specs.Rows.{row}
 use Rattle.graph.specs.WellFormed.{WellFormed}
-use Rattle.graph.specs.Arrangement.{at}
-use Rattle.graph.specs.Pairs.{Pair, pair, fromRow}
+use Rattle.arrangements.specs.Arrangement.{at}
+use Rattle.pairs.specs.Pairs.{Pair, pair, fromRow}
 use Rattle.search.specs.Judging.{samePair, pairOfTwo, judged}
 use Rattle.search.specs.Code.{allMarks, marksOf, turnBy, turnAt, walkCode, ownMask, stopsAt, StopsFor}
 use Rattle.search.proofs.Arrangements.{two-are}

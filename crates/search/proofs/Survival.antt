@@ -6,8 +6,10 @@ use lib.ListN.{length}
 use Rattle.walk.specs.Clause.{BreaksClause}
 use Rattle.graph.specs.declared.Graph.{Graph}
 use Rattle.graph.specs.WellFormed.{WellFormed, FullyDrawn}
-use Rattle.graph.specs.Arrangement.{Permitted, relabelled}
-use Rattle.graph.specs.Pairs.{pairs, entryAt}
+use Rattle.arrangements.specs.Arrangement.{Permitted}
+use Rattle.graph.specs.Graph.{relabelled}
+use Rattle.pairs.specs.Pairs.{pairs}
+use Rattle.graph.specs.Counts.{entryAt}
 use Rattle.search.specs.Answer.{judgeAnswer}
 use Rattle.search.proofs.Certificates.{Certified}
 use Rattle.search.proofs.Sound.{FullGraph, BrokenBy, sound, SaysSmaller, written, written-sound}

@@ -20,9 +20,9 @@ use Rattle.beginnings.proofs.Children.{Child, child-of-mem}
 use Rattle.beginnings.proofs.Follows.{Follows, length-more, follows-append, beginning-of}
 use Rattle.beginnings.proofs.Loop.{loop-cut, loop-won, loop-lost, loop-full, loop-deeper}
 use Rattle.graph.specs.declared.Graph.{Graph}
-use Rattle.graph.specs.Graph.{blockOf, row}
-use Rattle.graph.specs.Arrangement.{at}
-use Rattle.graph.specs.Pairs.{fromRow}
+use Rattle.rows.specs.Rows.{blockOf, row}
+use Rattle.arrangements.specs.Arrangement.{at}
+use Rattle.pairs.specs.Pairs.{fromRow}
 use Rattle.search.specs.Judging.{judged, found}
 use Rattle.search.specs.Masks.{usedMask, blockMask}
 use Rattle.search.specs.Code.{Within, Arranged, turnAt, walkCode, StopsFor, Stopped}

@@ -11,10 +11,12 @@ use Rattle.laws.specs.Bit.{bit}
 use Rattle.laws.specs.BitLaws.{bit-of-or}
 use Rattle.walk.specs.Walk.{step, turn}
 use Rattle.graph.specs.declared.Graph.{Graph}
-use Rattle.graph.specs.Graph.{row, entry}
+use Rattle.rows.specs.Rows.{row}
+use Rattle.graph.specs.Graph.{entry}
 use Rattle.graph.specs.WellFormed.{WellFormed}
-use Rattle.graph.specs.Arrangement.{at}
-use Rattle.graph.specs.Pairs.{Pair, pair, entryAt}
+use Rattle.arrangements.specs.Arrangement.{at}
+use Rattle.pairs.specs.Pairs.{Pair, pair}
+use Rattle.graph.specs.Counts.{entryAt}
 use Rattle.search.specs.Judging.{samePair, pairOfTwo, image}
 use Rattle.search.specs.Code.{codeOf, marksOf, turnBy, turnAt}
 use Rattle.search.proofs.Arrangements.{entry-of-image}

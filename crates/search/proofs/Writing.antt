@@ -15,8 +15,8 @@ use Rattle.laws.specs.Bit.{bit}
 use Rattle.laws.specs.BitLaws.{bit-of-zero, bits-past, below-of-bits}
 use Rattle.laws.specs.Masks.{not-empty, lowest-below}
 use Rattle.walk.specs.Clause.{numbered}
-use Rattle.graph.specs.Pairs.{Pair, pair, alongRow, fromRow, pairs, pairCount, number}
-use Rattle.graph.proofs.PairLaws.{pairCount-mono, number-first, number-next-row, number-low, number-high, alongRow-length}
+use Rattle.pairs.specs.Pairs.{Pair, pair, alongRow, fromRow, pairs, pairCount, number}
+use Rattle.pairs.proofs.PairLaws.{pairCount-mono, number-first, number-next-row, number-low, number-high, alongRow-length}
 use Rattle.search.specs.Clauses.{writtenFor, writtenAlong, Ahead, Wrote}
 use Rattle.search.proofs.MaskLaws.{lowest-least, shifted}
 use Rattle.search.proofs.CodeTurns.{row-and-rest}

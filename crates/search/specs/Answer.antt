@@ -9,7 +9,7 @@ use Rattle.walk.specs.Walk.{Outcome, won, lost, still-open}
 use Rattle.beginnings.specs.Search.{Found, cut, none, first}
 use Rattle.graph.specs.declared.Graph.{Graph}
 use Rattle.graph.specs.WellFormed.{wellFormed}
-use Rattle.graph.specs.Pairs.{Pair, pair, pairCount}
+use Rattle.pairs.specs.Pairs.{Pair, pair, pairCount}
 use Rattle.search.specs.declared.Verdict.{Verdict}
 use Rattle.search.specs.declared.Verdict.the-variants.{Smaller, Nothing, Cut, Refused}
 use Rattle.search.specs.declared.Judged.{Judged}

@@ -10,9 +10,9 @@ use lib.Dec.{leb, ltb, eqb}
 use Rattle.laws.specs.Test.{pick}
 use Rattle.laws.specs.Bit.{bit}
 use Rattle.walk.specs.Clause.{numbered}
-use Rattle.graph.specs.Graph.{entryIn}
-use Rattle.graph.specs.Arrangement.{at}
-use Rattle.graph.specs.Pairs.{Pair, pair}
+use Rattle.rows.specs.Rows.{entryIn}
+use Rattle.arrangements.specs.Arrangement.{at}
+use Rattle.pairs.specs.Pairs.{Pair, pair}
 use Rattle.search.specs.Judging.{samePair, pairOfTwo, image}
 
 -- the pair k is the last one or comes before it, in row order

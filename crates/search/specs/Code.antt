@@ -11,9 +11,9 @@ use Rattle.laws.specs.Bit.{bit}
 use Rattle.walk.specs.Walk.{Turn, wins, goes-on, loses}
 use Rattle.beginnings.specs.Search.{Found, cut, none, first}
 use Rattle.graph.specs.declared.Graph.{Graph}
-use Rattle.graph.specs.Graph.{row}
-use Rattle.graph.specs.Arrangement.{at}
-use Rattle.graph.specs.Pairs.{Pair, pair}
+use Rattle.rows.specs.Rows.{row}
+use Rattle.arrangements.specs.Arrangement.{at}
+use Rattle.pairs.specs.Pairs.{Pair, pair}
 use Rattle.search.specs.declared.explore.Explored.{Explored}
 use Rattle.search.specs.Judging.{samePair, pairOfTwo}
 

@@ -12,9 +12,10 @@ use Rattle.beginnings.specs.Search.{Judgement, Found, searched, stepsNeeded}
 use Rattle.beginnings.specs.Search
 use Rattle.beginnings.specs.Certificate.{completed}
 use Rattle.graph.specs.declared.Graph.{Graph}
-use Rattle.graph.specs.Graph.{blockOf}
-use Rattle.graph.specs.Arrangement.{at}
-use Rattle.graph.specs.Pairs.{Pair, pair, alongRow, pairs, entryAt}
+use Rattle.rows.specs.Rows.{blockOf}
+use Rattle.arrangements.specs.Arrangement.{at}
+use Rattle.pairs.specs.Pairs.{Pair, pair, alongRow, pairs}
+use Rattle.graph.specs.Counts.{entryAt}
 
 -- ---- pairs and their images
 

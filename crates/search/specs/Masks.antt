@@ -6,7 +6,7 @@ use mathlib.Core.List.{List, [], _∷_}
 use lib.Dec.{eqb}
 use Rattle.laws.specs.Test.{pick}
 use Rattle.laws.specs.UpTo.{wordUpTo}
-use Rattle.graph.specs.Graph.{blockOf}
+use Rattle.rows.specs.Rows.{blockOf}
 
 -- the vertices of b as a mask
 unfoldable pub usedMask : List ℕ → ℕ

@@ -13,9 +13,11 @@ use Rattle.beginnings.specs.Beginning.{absent, mayFollow, children}
 use Rattle.beginnings.specs.Search.{whereOpen, subtree, subtrees, reached, onWon, tryAll, searched}
 use Rattle.beginnings.specs.Certificate.{withFirst, completed}
 use Rattle.graph.specs.declared.Graph.{Graph}
-use Rattle.graph.specs.Graph.{placed, mirrored, drawn}
-use Rattle.graph.specs.WellFormed.{pairFits, rowFits, startsFit, orderFits, wellFormed}
-use Rattle.graph.specs.Pairs.{alongRow, fromRow, pairs, pairCount, number}
+use Rattle.rows.specs.Rows.{placed, mirrored}
+use Rattle.graph.specs.Graph.{drawn}
+use Rattle.rows.specs.Fits.{pairFits, rowFits, startsFit}
+use Rattle.graph.specs.WellFormed.{orderFits, wellFormed}
+use Rattle.pairs.specs.Pairs.{alongRow, fromRow, pairs, pairCount, number}
 use Rattle.search.specs.declared.Verdict.{Verdict}
 use Rattle.search.specs.declared.Verdict.the-variants.{Smaller, Nothing, Cut}
 use Rattle.search.specs.declared.Judged.{Judged}

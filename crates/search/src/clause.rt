@@ -5,9 +5,9 @@ ghost use mathlib.Core.List.{_++_};
 ghost use Prim.Native.Nat.{_+_, _-_, _^_, _≤_, _<_};
 ghost use lib.ListN.{length, drop};
 ghost use Rattle.walk.specs.Walk.{won};
-ghost use Rattle.graph.specs.Arrangement.{at, Reordering, isReordering, isPermitted, inverse};
+ghost use Rattle.arrangements.specs.Arrangement.{at, Reordering, isReordering, isPermitted, inverse};
 ghost use Rattle.graph.specs.WellFormed.{wellFormed};
-ghost use Rattle.graph.specs.Pairs.{pair, pairs, pairCount, number, alongRow};
+ghost use Rattle.pairs.specs.Pairs.{pair, pairs, pairCount, number, alongRow};
 ghost use Rattle.search.specs.Judging.{pairOfTwo, walkAll, clauseOf};
 ghost use Rattle.search.specs.Code.{graphIn, Within};
 ghost use Rattle.search.specs.Clauses.{reached, kindBy, kindAt, writtenFor, writtenAlong, FirstIn, Before, Firsts, Sources, Ahead, Wrote};
@@ -17,9 +17,9 @@ use crate::masks::without;
 use crate::turns::edges_of;
 use crate::turns::is_own;
 use crate::turns::marks_of;
-use graph::inner::entry_in;
-use graph::inner::inverse_of;
-use graph::inner::vertex_of;
+use arrangements::composed::inverse_of;
+use arrangements::places::vertex_of;
+use rows::entries::entry_in;
 
 // The number of the pair (i, j).
 fn number_of(n: u32, i: u32, j: u32) -> u32

@@ -4,7 +4,7 @@ ghost use mathlib.Core.Bool.{true};
 ghost use Prim.Native.Nat.{_+_, _-_, _^_, _≤_, _<_};
 ghost use lib.ListN.{length, drop};
 ghost use Rattle.graph.specs.WellFormed.{wellFormed};
-ghost use Rattle.graph.specs.Graph.{blockOf, placed};
+ghost use Rattle.rows.specs.Rows.{blockOf, placed};
 ghost use Rattle.search.specs.Masks.{blockMask};
 ghost use Rattle.search.specs.Judging.{found};
 ghost use Rattle.search.specs.Code.{graphIn, foundBy};

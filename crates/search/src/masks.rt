@@ -3,7 +3,7 @@ ghost use mathlib.Core.Path.{_≡_};
 ghost use Prim.Native.Nat.{_+_, _-_, _^_, _≤_, _<_};
 ghost use lib.Bits.{bitAnd};
 ghost use lib.Count.{trailingZeros};
-ghost use Rattle.graph.specs.Graph.{blockOf, placed};
+ghost use Rattle.rows.specs.Rows.{blockOf, placed};
 ghost use Rattle.search.specs.Masks.{blockMask, MaskOf, Fresh};
 
 // The place of the lowest bit of a mask.

@@ -3,14 +3,14 @@ ghost use mathlib.Core.Path.{_≡_};
 ghost use mathlib.Core.Bool.{true};
 ghost use Prim.Native.Nat.{_+_, _-_, _^_, _≤_, _<_};
 ghost use lib.Bits.{bitAnd};
-ghost use Rattle.graph.specs.Graph.{row};
-ghost use Rattle.graph.specs.Arrangement.{at};
-ghost use Rattle.graph.specs.Pairs.{pair, alongRow, fromRow};
+ghost use Rattle.rows.specs.Rows.{row};
+ghost use Rattle.arrangements.specs.Arrangement.{at};
+ghost use Rattle.pairs.specs.Pairs.{pair, alongRow, fromRow};
 ghost use Rattle.search.specs.Judging.{samePair, pairOfTwo};
 ghost use Rattle.search.specs.Code.{marksOf, turnBy, turnAt, walkCode, Within, Arranged, Later, Alike};
 use crate::masks::power;
 use crate::masks::without;
-use graph::inner::vertex_at;
+use arrangements::places::vertex_at;
 
 // The edges of row i.
 pub fn edges_of(edges: &[u32; 32], i: u32) -> u32

@@ -1,8 +1,7 @@
 use borrow.Author.Needs.{needs}
-use Rattle.graph.proofs.CodeTests.{known-reordering}
-use Rattle.laws.specs.TestLaws.{refused, passed}
+use Rattle.arrangements.proofs.CodeTests.{known-reordering}
+use Rattle.laws.specs.TestLaws.{refused, passed, first-refused, first-held}
 use Rattle.graph.proofs.CodeAnswers.{order-most, arranged-is}
-use Rattle.laws.specs.TestLaws.{first-refused, first-held}
 use Rattle.graph.specs.Answers.{composeAnswer}
 use Rattle.graph.proofs.compose.Statement.{statement}
 use Rattle.graph.proofs.compose.Tie as tie

@@ -1,6 +1,7 @@
 use borrow.Author.Needs.{needs}
 use Prim.Native.Nat.{_+_, _-_, _≤_, _<_}
-use Rattle.record.specs.Reached.{Reached, begin, cell}
+use Rattle.record.specs.Layout.{begin, cell}
+use Rattle.record.specs.Reached.{Reached}
 use Rattle.record.proofs.Reached.{from-here}
 use Rattle.record.proofs.PutLaws.{row-turns, rows-done}
 use Rattle.record.proofs.writing.put_rows.Statement.{statement}

@@ -1,11 +1,10 @@
 use borrow.Author.Needs.{needs}
-use Rattle.search.proofs.CodeCertificate.{column-low, column-high}
+use Rattle.search.proofs.CodeCertificate.{column-low, column-high, fromPair, first-starts, first-along, first-down, first-here, first-none}
 use Prim.Native.Nat.{_+_, _-_, _*_, _≤_, _<_}
 use mathlib.Core.Path.{_≡_}
-use Rattle.graph.specs.Pairs.{pairs}
+use Rattle.pairs.specs.Pairs.{pairs}
 use Rattle.search.specs.Code.{turnAt, firstPair}
 use Rattle.search.proofs.CodeTurns.{within-low, within-high}
-use Rattle.search.proofs.CodeCertificate.{fromPair, first-starts, first-along, first-down, first-here, first-none}
 use Rattle.search.proofs.certificate.standing.Statement.{statement}
 use Rattle.search.proofs.certificate.standing.Tie as tie
 

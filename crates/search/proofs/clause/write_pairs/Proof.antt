@@ -1,6 +1,6 @@
 use borrow.Author.Needs.{needs}
 use Prim.Native.Nat.{_-_}
-use Rattle.graph.specs.Pairs.{pair}
+use Rattle.pairs.specs.Pairs.{pair}
 use Rattle.search.specs.Clauses.{kindAt}
 use Rattle.search.proofs.ClauseMasks.{before-within, row-within, column-within, first-before, places-tested, source-known}
 use Rattle.search.proofs.Writing.{Rows, rows-begin, rows-long, rows-done, few-before, room-for, rows-turn}

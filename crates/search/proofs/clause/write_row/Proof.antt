@@ -1,6 +1,6 @@
 use borrow.Author.Needs.{needs}
 use Prim.Native.Nat.{_+_, _-_}
-use Rattle.graph.specs.Pairs.{pair}
+use Rattle.pairs.specs.Pairs.{pair}
 use Rattle.search.specs.Clauses.{kindAt}
 use Rattle.search.proofs.Writing.{Along, along-begins, along-long, along-done, column-in, column-after, lowest-small, column-fits, next-column-fits, number-fits, next-number-fits, number-small, fewer-left, room-left, along-turns}
 use Rattle.search.proofs.clause.write_row.Statement.{statement}

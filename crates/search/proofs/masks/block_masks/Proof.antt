@@ -1,8 +1,8 @@
 use borrow.Author.Needs.{needs}
 use Prim.Native.Nat.{_-_, _≤_}
 use mathlib.Core.Path.{_≡_}
-use Rattle.graph.specs.Graph.{blockOf, placed}
-use Rattle.graph.proofs.CodePlaces.{placed-starts, placed-done}
+use Rattle.rows.specs.Rows.{blockOf, placed}
+use Rattle.rows.proofs.Filled.{placed-starts, placed-done}
 use Rattle.search.specs.Masks.{blockMask, MaskOf}
 use Rattle.search.proofs.CodeMasks.{mask-first, mask-next, masks-more}
 use Rattle.search.proofs.masks.block_masks.Statement.{statement}

@@ -1,7 +1,7 @@
 use borrow.Author.Needs.{needs}
 use Prim.Native.Nat.{_-_, _≤_}
 use mathlib.Core.Path.{_≡_}
-use Rattle.graph.specs.Pairs.{fromRow}
+use Rattle.pairs.specs.Pairs.{fromRow}
 use Rattle.search.specs.Code.{turnAt, walkCode, Later}
 use Rattle.search.proofs.AlikeRows.{early-low, early-high, row-low, row-high, later-starts, later-more, later-again}
 use Rattle.search.proofs.CodeTurns.{rows-go-on, rows-end, rows-over}

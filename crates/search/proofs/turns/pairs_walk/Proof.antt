@@ -1,7 +1,7 @@
 use borrow.Author.Needs.{needs}
 use Prim.Native.Nat.{_+_, _-_, _≤_}
 use mathlib.Core.Path.{_≡_}
-use Rattle.graph.specs.Pairs.{alongRow}
+use Rattle.pairs.specs.Pairs.{alongRow}
 use Rattle.search.specs.Code.{turnAt, walkCode}
 use Rattle.search.proofs.CodeTurns.{vertex-low, vertex-high, earlier-low, earlier-high, turn-is, row-goes-on, row-ends, row-over}
 use Rattle.search.proofs.turns.pairs_walk.Statement.{statement}

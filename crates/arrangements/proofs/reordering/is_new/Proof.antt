@@ -1,0 +1,59 @@
+use borrow.Author.Needs.{needs}
+use Prim.Native.Nat.{_-_, _≤_}
+use mathlib.Core.Path.{_≡_}
+use mathlib.Core.Bool.{true}
+use Rattle.laws.specs.UpTo.{allUpTo}
+use Rattle.laws.specs.Loops.{all-starts, all-turns}
+use Rattle.arrangements.specs.Arrangement.{differs}
+use Rattle.arrangements.proofs.CodeTests.{new-done, new-stops}
+use Rattle.arrangements.proofs.reordering.is_new.Statement.{statement}
+use Rattle.arrangements.proofs.reordering.is_new.Tie as tie
+
+abbrev Inv-loop : tie.InvT-loop
+Inv-loop p i j₀ j = (j ≤ i - 1) × (allUpTo (differs p i) j ≡ true)
+
+abbrev μ-loop : tie.MeasureT-loop
+μ-loop p i j₀ j = i - 1 - j
+
+loop-holds : tie.Need-loop-holds Inv-loop μ-loop
+loop-holds c = search (all-starts, needs)
+
+sub-loop : tie.Need-sub-loop Inv-loop μ-loop
+sub-loop c = search needs
+
+add-differ : tie.Need-add-differ Inv-loop μ-loop
+add-differ c = search needs
+
+differ-requires : tie.Need-differ-requires Inv-loop μ-loop
+differ-requires c κs = search needs
+
+add-j : tie.Need-add-j Inv-loop μ-loop
+add-j c = search needs
+
+loop-less : tie.Need-loop-less Inv-loop μ-loop
+loop-less c = search needs
+
+loop-again : tie.Need-loop-again Inv-loop μ-loop
+loop-again c = search (all-turns, needs)
+
+returns : tie.Need-returns Inv-loop μ-loop
+returns c = search (new-stops, needs)
+
+returns-2 : tie.Need-returns-2 Inv-loop μ-loop
+returns-2 c = search (new-done, needs)
+
+pub is-new-spec : {M : Type 1} → statement M
+is-new-spec =
+    tie.close
+    (tie.spec
+    Inv-loop
+    μ-loop
+    loop-holds
+    sub-loop
+    add-differ
+    differ-requires
+    add-j
+    loop-less
+    loop-again
+    returns
+    returns-2)

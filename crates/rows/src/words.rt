@@ -1,0 +1,53 @@
+// Words of bits.
+ghost use mathlib.Core.Path.{_≡_};
+ghost use Prim.Native.Nat.{_*_, _≤_, _<_, _^_};
+ghost use Rattle.laws.specs.Bit.{withBit};
+ghost use Rattle.rows.specs.Standing.{mixed};
+
+// A word as a wider one.
+pub fn wide(x: u32) -> u64
+    ensures { λ r. ⌜ r ≡ x ⌝ }
+{
+    x as u64
+}
+
+// 2 to the k, up to the 32nd power.
+pub fn limit_of(k: u32) -> u64
+    requires { ⌜ k ≤ 32 ⌝ }
+    ensures { λ r. ⌜ r ≡ 2 ^ k ⌝ }
+{
+    1u64 << k
+}
+
+// 2 to the k.
+pub fn power(k: u32) -> u32
+    requires { ⌜ k < 32 ⌝ }
+    ensures { λ r. ⌜ (r ≡ 2 ^ k) × (1 ≤ r) ⌝ }
+{
+    1u32 << k
+}
+
+// The low k bits of one word with the other bits of another.
+pub fn mixed_of(k: u32, low: u32, high: u32) -> u32
+    requires { ⌜ k < 32 ⌝ }
+    ensures { λ r. ⌜ r ≡ mixed k low high ⌝ }
+{
+    let p = power(k);
+    high - high % p + low % p
+}
+
+// The bit b at place k.
+pub fn weight(b: u32, k: u32) -> u32
+    requires { ⌜ (b ≤ 1) × (k < 32) ⌝ }
+    ensures { λ r. ⌜ r ≡ b * 2 ^ k ⌝ }
+{
+    b << k
+}
+
+// w with bit k made b.
+pub fn with_bit(w: u32, k: u32, b: u32) -> u32
+    requires { ⌜ (b ≤ 1) × (k < 32) ⌝ }
+    ensures { λ r. ⌜ r ≡ withBit w k b ⌝ }
+{
+    w - weight((w >> k) % 2, k) + weight(b, k)
+}
