@@ -94,4 +94,3 @@ inverse-turns p i n v out h e low high small =
 pub inverse-done : (p : List ℕ) (m n : ℕ) (out : List ℕ) → out ≡ placed (placeOf p m) n → m ≤ n → n ≤ m → out ≡ inverse n p
 unfolding inverse
 inverse-done p m n out h a b = let q : m ≡ n = omega arith in h ∙ ap (λ (k : ℕ). placed (placeOf p k) n) q
-

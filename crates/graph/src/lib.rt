@@ -3,7 +3,6 @@ ghost use mathlib.Core.Path.{_≡_};
 ghost use lib.ListN.{replicate};
 ghost use Rattle.graph.specs.WellFormed.{wellFormed, orderFits};
 ghost use Rattle.graph.specs.Answers.{isVertex, isPair, noGraph, changed, arrangement, readAnswer, setAnswer, countAnswer, degreeAnswer, relabelAnswer, composeAnswer, invertAnswer};
-
 use arrangements::composed::composed_of;
 use arrangements::composed::inverse_of;
 use arrangements::moved::moved_rows;

@@ -33,7 +33,7 @@ use Rattle.search.specs.declared.explore.Explored.{Explored}
 use Rattle.search.specs.declared.Judged.{Judged}
 use Rattle.search.specs.Judging.{samePair, image, walkAll, clauseOf, judged, judgedOn, found, padded, certificateOf}
 use Rattle.search.specs.Answer.{without, standingPair, smaller, answerFor, judgeAnswer, atStart, judgeBuffer}
-use Rattle.search.specs.Code.{codeOf, turnAt, firstPair, Within, foundBy}
+use Rattle.search.specs.Code.{codeOf, turnAt, firstPair, Within, foundBy, graphIn}
 use Rattle.search.proofs.Arrangements.{padded-permitted}
 use Rattle.search.proofs.TurnCodes.{turn-codes}
 use Rattle.search.proofs.Judgements.{of-won}
@@ -61,59 +61,56 @@ first-won v img t (j ∷ ks) k h e =
     ap (λ (c : ℕ). pick (eqb c 0) (firstPair t ks) j) (sym (each-first (λ i. codeOf (turn samePair v img i) ≡ t i) h))
     ∙ by-turn (turn samePair v img j) j (walk samePair v img ks) k (firstPair t ks) e (first-won v img t ks k (each-rest (λ i. codeOf (turn samePair v img i) ≡ t i) h))
 
-pub taken-long : (g : Graph) → wellFormed g ≡ true → (start : List ℕ) (depth : ℕ) → length start ≡ 32 → depth ≤ g .order → length (take depth start) ≡ depth
-taken-long g w start depth l d = length-take-le depth start (omega (arith, formed g w .order-high))
+pub taken-long : (n : ℕ) (es us : List ℕ) (starts : ℕ) → wellFormed (graphIn n es us starts) ≡ true → (start : List ℕ) (depth : ℕ) → length start ≡ 32 → depth ≤ n → length (take depth start) ≡ depth
+taken-long n es us starts w start depth l d = length-take-le depth start (omega (arith, formed (graphIn n es us starts) w .order-high))
 
-module _ (g : Graph) (w : wellFormed g ≡ true) (start : List ℕ) (depth : ℕ) (l : length start ≡ 32) (d : depth ≤ g .order) (b : Beginning (g .order) (blockOf (g .starts)) (take depth start))
-    (path : List ℕ) (p : path ≡ padded (completed (g .order) (blockOf (g .starts)) (g .order - depth) (take depth start))) where
-  is-formed : WellFormed g
-  is-formed = formed g w
+module _ (n : ℕ) (es us : List ℕ) (starts : ℕ) (w : wellFormed (graphIn n es us starts) ≡ true) (start : List ℕ) (depth : ℕ) (l : length start ≡ 32) (d : depth ≤ n) (b : Beginning n (blockOf starts) (take depth start))
+    (path : List ℕ) (p : path ≡ padded (completed n (blockOf starts) (n - depth) (take depth start))) where
+  is-formed : WellFormed (graphIn n es us starts)
+  is-formed = formed (graphIn n es us starts) w
 
-  is-certificate : path ≡ certificateOf g (take depth start)
+  is-certificate : path ≡ certificateOf (graphIn n es us starts) (take depth start)
   unfolding certificateOf
-  is-certificate = p ∙ ap (λ (m : ℕ). padded (completed (g .order) (blockOf (g .starts)) (g .order - m) (take depth start))) (sym (taken-long g w start depth l d))
+  is-certificate = p ∙ ap (λ (m : ℕ). padded (completed n (blockOf starts) (n - m) (take depth start))) (sym (taken-long n es us starts w start depth l d))
 
-  is-permitted : Permitted (g .order) (g .starts) path
+  is-permitted : Permitted n starts path
   unfolding certificateOf
   is-permitted =
-      let c = completed-whole (g .order) (blockOf (g .starts)) (take depth start) b in
-      rw is-certificate (padded-permitted (g .order) (g .starts) (is-formed .order-high) (completed (g .order) (blockOf (g .starts)) (g .order - length (take depth start)) (take depth start)) (c .beginning) (c .whole))
+      let c = completed-whole n (blockOf starts) (take depth start) b in
+      rw is-certificate (padded-permitted n starts (is-formed .order-high) (completed n (blockOf starts) (n - length (take depth start)) (take depth start)) (c .beginning) (c .whole))
 
-  pub certificate-tested : isPermitted (g .order) (g .starts) path ≡ true
-  certificate-tested = permitted-tested (g .order) (g .starts) path is-permitted
+  pub certificate-tested : isPermitted n starts path ≡ true
+  certificate-tested = permitted-tested n starts path is-permitted
 
-  pub certificate-within : Within (g .order) path
+  pub certificate-within : Within n path
   certificate-within =
       let r = is-permitted .reordering in
       record { low = r .low; high = λ i a c. omega (arith, r .high i a c, is-formed .order-high) }
 
-  module _ (j : judged g (take depth start) ≡ Search.won) (row column : ℕ) (s : pair row column ≡ firstPair (turnAt (g .edges) (g .unknowns) path) (pairs (g .order))) where
-    won-walk : (k : Pair) × (walkAll g path ≡ won k)
+  module _ (j : judged (graphIn n es us starts) (take depth start) ≡ Search.won) (row column : ℕ) (s : pair row column ≡ firstPair (turnAt es us path) (pairs n)) where
+    won-walk : (k : Pair) × (walkAll (graphIn n es us starts) path ≡ won k)
     unfolding judged
     won-walk =
-        let r = of-won (walk samePair (entryAt g) (image (take depth start)) (judgedOn (g .order) (length (take depth start)))) j in
-        (r .0, rw is-certificate (certificate-walk g is-formed (take depth start) (r .0) b (r .1)))
+        let r = of-won (walk samePair (entryAt (graphIn n es us starts)) (image (take depth start)) (judgedOn n (length (take depth start)))) j in
+        (r .0, rw is-certificate (certificate-walk (graphIn n es us starts) is-formed (take depth start) (r .0) b (r .1)))
 
-    pub stands-there : walkAll g path ≡ won (pair row column)
+    pub stands-there : walkAll (graphIn n es us starts) path ≡ won (pair row column)
     unfolding walkAll
     stands-there =
         let r = won-walk in
-        r .1 ∙ ap won (sym (first-won (entryAt g) (image path) (turnAt (g .edges) (g .unknowns) path) (pairs (g .order)) (r .0) (λ k m. turn-codes g is-formed path k) (r .1)) ∙ sym s)
+        r .1 ∙ ap won (sym (first-won (entryAt (graphIn n es us starts)) (image path) (turnAt es us path) (pairs n) (r .0) (λ k m. turn-codes (graphIn n es us starts) is-formed path k) (r .1)) ∙ sym s)
 
-    pub smaller-is : (steps count : ℕ) → count ≡ length (clauseOf g path)
-        → _≡_ {A = Judged} (record { verdict = Smaller row column steps; arrangement = path; literals = count }) (smaller g (certificateOf g (take depth start)) steps)
+    pub smaller-is : (steps count : ℕ) → count ≡ length (clauseOf (graphIn n es us starts) path)
+        → _≡_ {A = Judged} (record { verdict = Smaller row column steps; arrangement = path; literals = count }) (smaller (graphIn n es us starts) (certificateOf (graphIn n es us starts) (take depth start)) steps)
     unfolding smaller standingPair
     smaller-is steps count e = rw (← is-certificate, stands-there, e)
 
-  pub clause-is : (before after : List ℤ) → after ≡ clauseOf g path ++ drop (length (clauseOf g path)) before
-      → after ≡ clauseOf g (certificateOf g (take depth start)) ++ drop (length (clauseOf g (certificateOf g (take depth start)))) before
-  clause-is before after e = e ∙ ap (λ (q : List ℕ). clauseOf g q ++ drop (length (clauseOf g q)) before) is-certificate
+  pub clause-is : (before after : List ℤ) → after ≡ clauseOf (graphIn n es us starts) path ++ drop (length (clauseOf (graphIn n es us starts) path)) before
+      → after ≡ clauseOf (graphIn n es us starts) (certificateOf (graphIn n es us starts) (take depth start)) ++ drop (length (clauseOf (graphIn n es us starts) (certificateOf (graphIn n es us starts) (take depth start)))) before
+  clause-is before after e = e ∙ ap (λ (q : List ℕ). clauseOf (graphIn n es us starts) q ++ drop (length (clauseOf (graphIn n es us starts) q)) before) is-certificate
 
-pub order-least : (g : Graph) → wellFormed g ≡ true → 1 ≤ g .order
-order-least g w = formed g w .order-low
-
-pub order-most : (g : Graph) → wellFormed g ≡ true → g .order ≤ 32
-order-most g w = formed g w .order-high
+pub order-least : (n : ℕ) (es us : List ℕ) (starts : ℕ) → wellFormed (graphIn n es us starts) ≡ true → 1 ≤ n
+order-least n es us starts w = formed (graphIn n es us starts) w .order-low
 
 -- ---- from the search to the answer
 
@@ -207,10 +204,10 @@ module _ (g : Graph) (budget : ℕ) (buffer : List ℤ) (b : Bool) (e : b ≡ we
         by-answer r after (passed b (wellFormed g) r _ _ e h (passed c (leb (pairCount (g .order)) (length buffer)) r _ _ f k q)) z
 
 pub tested-least : (g : Graph) (b : Bool) → b ≡ wellFormed g → b ≡ true → 1 ≤ g .order
-tested-least g b e h = order-least g (sym e ∙ h)
+tested-least g b e h = formed g (sym e ∙ h) .order-low
 
 pub tested-most : (g : Graph) (b : Bool) → b ≡ wellFormed g → b ≡ true → g .order ≤ 32
-tested-most g b e h = order-most g (sym e ∙ h)
+tested-most g b e h = formed g (sym e ∙ h) .order-high
 
 -- the places after n of a path that began as zeros
 zeros-after : (m n : ℕ) → drop {A = ℕ} n (replicate m 0) ≡ replicate (m - n) 0

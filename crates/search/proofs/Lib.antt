@@ -8,6 +8,7 @@ pub mod Writing
 pub mod ClauseMasks
 pub mod CodeMasks
 pub mod MaskLaws
+pub mod BlockRuns
 pub mod Arrangements
 pub mod Judgements
 pub mod Certificates

@@ -1,11 +1,13 @@
 -- The block of the next place without the vertices in use marks the children of a list.
-use Prim.Native.Nat.{ℕ, suc, _+_, _-_, _^_, _≤_, _<_}
+use Prim.Native.Nat.{ℕ, suc, _+_, _-_, _/_, _%_, _^_, _≤_, _<_}
 use mathlib.Core.Path.{_≡_, refl, sym, ap, _∙_}
 use mathlib.Core.Bool.{Bool, true, false, not}
-use mathlib.Core.List.{List, [], _∷_, _++_, append-nil}
+use mathlib.Core.Logic.{_≢_, ⊎-elim}
+use mathlib.Core.List.{List, [], _∷_, _++_, append-nil, List·Memᴰ, List·Memᴰ·cases-cons}
 use native.Mathlib.Omega.{arith}
 use lib.ListN.{length}
-use lib.Pow.{pow-pos}
+use lib.Count.{trailingZeros}
+use lib.Pow.{pow-pos, shr-shr}
 use lib.Seq.{append-snoc}
 use lib.Bits.{bitAnd, and-zero-r}
 use lib.Dec.{eqb}
@@ -15,12 +17,38 @@ use Rattle.laws.specs.TestLaws.{both-first, second-fails, holds, pick-true, pic
 use Rattle.laws.specs.Bit.{bit}
 use Rattle.laws.specs.BitLaws.{bit-of-zero}
 use Rattle.laws.specs.UpToLaws.{word-below, word-bit}
-use Rattle.laws.specs.Chosen.{chosen-fits, chosen-same}
-use Rattle.laws.specs.Masks.{marked, members, is-marked, not-marked, added-same, added-other, added-below, without-lacks, without-has}
+use Rattle.laws.specs.Chosen.{Ascending, is-chosen, chosen-fits, chosen-same, chosen-ascend}
+use Rattle.laws.specs.Masks.{marked, members, is-marked, not-marked, added-same, added-other, added-below, without-lacks, without-has, not-empty, lowest-below, lowest-first}
 use Rattle.beginnings.specs.Beginning.{absent, mayFollow, children}
 use Rattle.beginnings.proofs.Children.{Child, mem-of-child}
 use Rattle.beginnings.proofs.Follows.{Follows}
 use Rattle.search.specs.Masks.{usedMask, sameBlock, blockMask}
+
+-- ---- the lowest bit
+
+module _ (m n k : ℕ) (count : k ≡ trailingZeros 32 m) (fits : m < 2 ^ n) (small : n ≤ 32) (some : m ≢ 0) where
+  -- no bit below the lowest is set
+  pub lowest-least : (d : ℕ) → d < k → bit m d ≢ 1
+  unfolding members
+  lowest-least d l e =
+      ⊎-elim (λ (q : suc d ≡ suc k). omega arith)
+      (λ (q : List·Memᴰ (suc d) (members (m - 2 ^ k) n)). omega (arith, head .0 (suc d) q))
+      (List·Memᴰ·cases-cons (rw first at there))
+    where
+      first : members m n ≡ suc k ∷ members (m - 2 ^ k) n
+      first = lowest-first m n k (m - 2 ^ k) count refl fits small (not-empty m some)
+
+      there : List·Memᴰ (suc d) (members m n)
+      there =
+          let place : suc d - 1 ≡ d = omega arith in
+          is-chosen (marked m) n (suc d) (omega arith) (omega (arith, lowest-below m n k count fits small (not-empty m some))) (is-marked m (suc d) (rw place e))
+
+      head : Ascending (suc k ∷ members (m - 2 ^ k) n)
+      head = rw first at (chosen-ascend (marked m) n)
+
+-- the bits after the k + 1 lowest
+pub shifted : (w k x : ℕ) → bit (w / 2 ^ k / 2 ^ 1) x ≡ bit w (k + (1 + x))
+shifted w k x = ap (λ (y : ℕ). y % 2) (shr-shr (w / 2 ^ k) 1 x ∙ shr-shr w k (1 + x))
 
 -- ---- the vertices in use
 

@@ -1,25 +1,24 @@
 -- The pass over the pairs that writes a clause: what holds at each turn of its loops, and what it leaves.
-use Prim.Native.Nat.{ℕ, zero, suc, _+_, _-_, _/_, _%_, _^_, _≤_, _<_}
+use Prim.Native.Nat.{ℕ, zero, suc, _+_, _-_, _/_, _^_, _≤_, _<_}
 use native.Mathlib.Omega.{arith}
 use mathlib.Core.Path.{_≡_, refl, sym, ap, ap₂, _∙_}
-use mathlib.Core.Logic.{_≢_, ⊎-elim}
+use mathlib.Core.Logic.{_≢_}
 use mathlib.Core.Bool.{Bool, true, false}
-use mathlib.Core.List.{List, [], _∷_, _++_, append-assoc, append-nil, List·Memᴰ, List·Memᴰ·cases-cons}
+use mathlib.Core.List.{List, [], _∷_, _++_, append-assoc, append-nil}
 use lib.IntN.{ℤ}
 use lib.ListN.{length, take, drop, take-append-drop, length-append, length-drop}
 use lib.Seq.{take-at, drop-at, drop-drop, length-take-le}
 use lib.Count.{trailingZeros}
 use lib.Dec.{eqb}
-use lib.Pow.{shr-shr}
 use Rattle.laws.specs.Compared.{by-same}
 use Rattle.laws.specs.Bit.{bit}
 use Rattle.laws.specs.BitLaws.{bit-of-zero, bits-past, below-of-bits}
-use Rattle.laws.specs.Chosen.{Ascending, is-chosen, chosen-ascend}
-use Rattle.laws.specs.Masks.{marked, members, is-marked, not-empty, lowest-below, lowest-first}
+use Rattle.laws.specs.Masks.{not-empty, lowest-below}
 use Rattle.walk.specs.Clause.{numbered}
 use Rattle.pairs.specs.Pairs.{Pair, pair, alongRow, fromRow, pairs, pairCount, number}
 use Rattle.pairs.proofs.PairLaws.{pairCount-mono, number-first, number-next-row, number-low, number-high, alongRow-length}
 use Rattle.search.specs.Clauses.{writtenFor, writtenAlong, Ahead, Wrote}
+use Rattle.search.proofs.MaskLaws.{lowest-least, shifted}
 use Rattle.search.proofs.CodeTurns.{row-and-rest}
 
 -- ---- texts in the buffer
@@ -103,28 +102,6 @@ module _ (t : Pair → ℕ) where
       rw (w, here, none-written (suc a), y, z)
       (along-skips i (suc j) (suc a) d m (λ x l. let w : j + suc x ≡ suc j + x = omega arith in rw w at (none (suc x) (omega arith))))
 
--- ---- the columns of a mask
-
-module _ (m n k : ℕ) (count : k ≡ trailingZeros 32 m) (fits : m < 2 ^ n) (small : n ≤ 32) (some : m ≢ 0) where
-  -- no bit below the lowest is set
-  pub lowest-least : (d : ℕ) → d < k → bit m d ≢ 1
-  unfolding members
-  lowest-least d l e =
-      ⊎-elim (λ (q : suc d ≡ suc k). omega arith)
-      (λ (q : List·Memᴰ (suc d) (members (m - 2 ^ k) n)). omega (arith, head .0 (suc d) q))
-      (List·Memᴰ·cases-cons (rw first at there))
-    where
-      first : members m n ≡ suc k ∷ members (m - 2 ^ k) n
-      first = lowest-first m n k (m - 2 ^ k) count refl fits small (not-empty m some)
-
-      there : List·Memᴰ (suc d) (members m n)
-      there =
-          let place : suc d - 1 ≡ d = omega arith in
-          is-chosen (marked m) n (suc d) (omega arith) (omega (arith, lowest-below m n k count fits small (not-empty m some))) (is-marked m (suc d) (rw place e))
-
-      head : Ascending (suc k ∷ members (m - 2 ^ k) n)
-      head = rw first at (chosen-ascend (marked m) n)
-
 -- ---- along a row
 
 -- before the turn at column j, whose number is m: what is written of the row and what is still to come is all of it
@@ -161,10 +138,6 @@ along-begins t n i old left m count high low more few room fits ahead here =
       fits = fits;
       ahead = ahead;
     }
-
--- the bits after the k + 1 lowest
-shifted : (w k x : ℕ) → bit (w / 2 ^ k / 2 ^ 1) x ≡ bit w (k + (1 + x))
-shifted w k x = ap (λ (y : ℕ). y % 2) (shr-shr (w / 2 ^ k) 1 x ∙ shr-shr w k (1 + x))
 
 number-skips : (n i j k m : ℕ) → i < j → m ≡ number n i j → m + k ≡ number n i (j + k)
 number-skips n i j k m l e = omega arith

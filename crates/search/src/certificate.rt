@@ -4,14 +4,13 @@ ghost use Prim.Native.Nat.{_+_, _-_, _≤_, _<_};
 ghost use lib.ListN.{length, take, drop, replicate};
 ghost use Rattle.beginnings.specs.Beginning.{Beginning};
 ghost use Rattle.beginnings.specs.Certificate.{completed};
-ghost use Rattle.rows.specs.Rows.{blockOf};
+ghost use Rattle.rows.specs.Rows.{blockOf, placed};
 ghost use Rattle.pairs.specs.Pairs.{pair, pairs};
 ghost use Rattle.search.specs.Judging.{padded};
-ghost use Rattle.search.specs.Masks.{usedMask};
+ghost use Rattle.search.specs.Masks.{usedMask, blockMask};
 ghost use Rattle.search.specs.Code.{turnAt, firstPair, Within};
 use crate::explore::stored;
 use crate::explore::weight_of;
-use crate::masks::block_masks;
 use crate::masks::lowest;
 use crate::masks::power;
 use crate::masks::without;
@@ -32,11 +31,16 @@ fn used_mask(path: &[u8; 32], n: u32, starts: u32, depth: u32) -> u32
 }
 
 // Fills the places after the first `depth` up to n, each with the lowest unused vertex of its block.
-pub fn complete(n: u32, starts: u32, depth: u32, path: &mut [u8; 32])
-    requires { ⌜ (length (now path) ≡ 32) × (n ≤ 32) × (length (take depth (now path)) ≡ depth) × Beginning n (blockOf starts) (take depth (now path)) × (drop n (now path) ≡ replicate (32 - n) 0) ⌝ }
+pub fn complete<'a, 'b>(
+    n: u32,
+    starts: u32,
+    blocks: &'a [u32; 32],
+    depth: u32,
+    path: &'b mut [u8; 32],
+)
+    requires { ⌜ (length (now path) ≡ 32) × (n ≤ 32) × (length (take depth (now path)) ≡ depth) × Beginning n (blockOf starts) (take depth (now path)) × (drop n (now path) ≡ replicate (32 - n) 0) × (now blocks ≡ placed (blockMask (blockOf starts) n) n) ⌝ }
     ensures { λ r. ⌜ now (path .exit) ≡ padded (completed n (blockOf starts) (n - depth) (take depth (now (path .entry)))) ⌝ }
 {
-    let blocks = block_masks(n, starts);
     let mut used = used_mask(path, n, starts, depth);
     let mut d = depth as usize;
     while d < n as usize {

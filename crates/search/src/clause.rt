@@ -17,9 +17,9 @@ use crate::masks::without;
 use crate::turns::edges_of;
 use crate::turns::is_own;
 use crate::turns::marks_of;
-use rows::entries::entry_in;
 use arrangements::composed::inverse_of;
 use arrangements::places::vertex_of;
+use rows::entries::entry_in;
 
 // The number of the pair (i, j).
 fn number_of(n: u32, i: u32, j: u32) -> u32

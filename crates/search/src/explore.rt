@@ -4,9 +4,10 @@ ghost use mathlib.Core.Bool.{true};
 ghost use Prim.Native.Nat.{_+_, _-_, _^_, _≤_, _<_};
 ghost use lib.ListN.{length, drop};
 ghost use Rattle.graph.specs.WellFormed.{wellFormed};
+ghost use Rattle.rows.specs.Rows.{blockOf, placed};
+ghost use Rattle.search.specs.Masks.{blockMask};
 ghost use Rattle.search.specs.Judging.{found};
 ghost use Rattle.search.specs.Code.{graphIn, foundBy};
-use crate::masks::block_masks;
 use crate::masks::lowest;
 use crate::masks::power;
 use crate::masks::without;
@@ -51,13 +52,13 @@ pub fn explore<'a, 'b>(
     edges: &'a [u32; 32],
     unknowns: &'a [u32; 32],
     starts: u32,
+    blocks: &'a [u32; 32],
     budget: u32,
     path: &'b mut [u8; 32],
 ) -> Explored
-    requires { ⌜ (length (now path) ≡ 32) × (wellFormed (graphIn n (now edges) (now unknowns) starts) ≡ true) ⌝ }
+    requires { ⌜ (length (now path) ≡ 32) × (wellFormed (graphIn n (now edges) (now unknowns) starts) ≡ true) × (now blocks ≡ placed (blockMask (blockOf starts) n) n) ⌝ }
     ensures { λ r. ⌜ (foundBy r (now (path .exit)) ≡ found (graphIn n (now (edges .entry)) (now (unknowns .entry)) starts) budget) × (drop n (now (path .exit)) ≡ drop n (now (path .entry))) × (r .depth ≤ n) ⌝ }
 {
-    let blocks = block_masks(n, starts);
     let ones = edges_of(edges, 1);
     let mut untried = [0u32; 32];
     let mut stops = [0u32; 32];

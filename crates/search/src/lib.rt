@@ -7,10 +7,12 @@ ghost use lib.ListN.{length, take, drop, replicate};
 ghost use lib.Dec.{leb};
 ghost use Rattle.beginnings.specs.Beginning.{Beginning};
 ghost use Rattle.beginnings.specs.Search.{won};
-ghost use Rattle.rows.specs.Rows.{blockOf};
+ghost use Rattle.rows.specs.Rows.{blockOf, placed};
 ghost use Rattle.pairs.specs.Pairs.{pairCount};
 ghost use Rattle.graph.specs.WellFormed.{wellFormed};
 ghost use Rattle.search.specs.Judging.{judged, found, clauseOf, certificateOf};
+ghost use Rattle.search.specs.Code.{graphIn};
+ghost use Rattle.search.specs.Masks.{blockMask};
 ghost use Rattle.search.specs.Answer.{without, smaller, answerFor, atStart, judgeAnswer, judgeBuffer};
 
 mod certificate;
@@ -23,8 +25,10 @@ mod turns;
 use certificate::complete;
 use certificate::standing;
 use clause::write_clause;
+use explore::Explored;
 use explore::explore;
 use graph::Graph;
+use masks::block_masks;
 
 // How a judgement ended. Steps are the beginnings tried.
 pub enum Verdict {
@@ -66,27 +70,26 @@ fn has_room(n: u32, room: usize) -> bool
 }
 
 // The answer where the path's first places are the first won beginning: its certificate, and the clause written.
-fn certify(graph: Graph, start: [u8; 32], depth: u32, steps: u32, literals: &mut [i32]) -> Judged
-    requires { ⌜ (wellFormed graph ≡ true) × (pairCount (graph .order) ≤ length (now literals)) × (depth ≤ graph .order) × Beginning (graph .order) (blockOf (graph .starts)) (take depth start) × (judged graph (take depth start) ≡ won) × (drop (graph .order) start ≡ replicate (32 - graph .order) 0) ⌝ }
-    ensures { λ r. ⌜ (r ≡ smaller graph (certificateOf graph (take depth start)) steps) × (now (literals .exit) ≡ clauseOf graph (certificateOf graph (take depth start)) ++ drop (length (clauseOf graph (certificateOf graph (take depth start)))) (now (literals .entry))) ⌝ }
+fn certify<'a, 'b>(
+    n: u32,
+    edges: &'a [u32; 32],
+    unknowns: &'a [u32; 32],
+    starts: u32,
+    blocks: &'a [u32; 32],
+    start: [u8; 32],
+    end: Explored,
+    literals: &'b mut [i32],
+) -> Judged
+    requires { ⌜ (wellFormed (graphIn n (now edges) (now unknowns) starts) ≡ true) × (pairCount n ≤ length (now literals)) × (now blocks ≡ placed (blockMask (blockOf starts) n) n) × (end .depth ≤ n) × Beginning n (blockOf starts) (take (end .depth) start) × (judged (graphIn n (now edges) (now unknowns) starts) (take (end .depth) start) ≡ won) × (drop n start ≡ replicate (32 - n) 0) ⌝ }
+    ensures { λ r. ⌜ (r ≡ smaller (graphIn n (now (edges .entry)) (now (unknowns .entry)) starts) (certificateOf (graphIn n (now (edges .entry)) (now (unknowns .entry)) starts) (take (end .depth) start)) (end .steps)) × (now (literals .exit) ≡ clauseOf (graphIn n (now (edges .entry)) (now (unknowns .entry)) starts) (certificateOf (graphIn n (now (edges .entry)) (now (unknowns .entry)) starts) (take (end .depth) start)) ++ drop (length (clauseOf (graphIn n (now (edges .entry)) (now (unknowns .entry)) starts) (certificateOf (graphIn n (now (edges .entry)) (now (unknowns .entry)) starts) (take (end .depth) start)))) (now (literals .entry))) ⌝ }
 {
-    let n = graph.order;
-    let starts = graph.starts;
+    let steps = end.steps;
     let mut path = start;
-    complete(n, starts, depth, &mut path);
-    let at = standing(&graph.edges, &graph.unknowns, &path, n);
+    complete(n, starts, blocks, end.depth, &mut path);
+    let at = standing(edges, unknowns, &path, n);
     let row = at.row;
     let column = at.column;
-    let count = write_clause(
-        &graph.edges,
-        &graph.unknowns,
-        &path,
-        n,
-        starts,
-        row,
-        column,
-        literals,
-    );
+    let count = write_clause(edges, unknowns, &path, n, starts, row, column, literals);
     Judged {
         verdict: Verdict::Smaller { row, column, steps },
         arrangement: path,
@@ -95,22 +98,23 @@ fn certify(graph: Graph, start: [u8; 32], depth: u32, steps: u32, literals: &mut
 }
 
 // The answer for a well-formed graph and a buffer with room.
-fn judge_formed(graph: Graph, budget: u32, literals: &mut [i32]) -> Judged
-    requires { ⌜ (wellFormed graph ≡ true) × (pairCount (graph .order) ≤ length (now literals)) ⌝ }
-    ensures { λ r. ⌜ (r ≡ answerFor graph budget (found graph budget)) × (now (literals .exit) ≡ atStart (r .verdict) (clauseOf graph (r .arrangement)) (now (literals .entry))) ⌝ }
+fn judge_formed<'a, 'b>(
+    n: u32,
+    edges: &'a [u32; 32],
+    unknowns: &'a [u32; 32],
+    starts: u32,
+    budget: u32,
+    literals: &'b mut [i32],
+) -> Judged
+    requires { ⌜ (wellFormed (graphIn n (now edges) (now unknowns) starts) ≡ true) × (pairCount n ≤ length (now literals)) ⌝ }
+    ensures { λ r. ⌜ (r ≡ answerFor (graphIn n (now (edges .entry)) (now (unknowns .entry)) starts) budget (found (graphIn n (now (edges .entry)) (now (unknowns .entry)) starts) budget)) × (now (literals .exit) ≡ atStart (r .verdict) (clauseOf (graphIn n (now (edges .entry)) (now (unknowns .entry)) starts) (r .arrangement)) (now (literals .entry))) ⌝ }
 {
+    let blocks = block_masks(n, starts);
     let mut path = [0u8; 32];
-    let end = explore(
-        graph.order,
-        &graph.edges,
-        &graph.unknowns,
-        graph.starts,
-        budget,
-        &mut path,
-    );
+    let end = explore(n, edges, unknowns, starts, &blocks, budget, &mut path);
     let kind = end.kind;
     if kind == 1 {
-        return certify(graph, path, end.depth, end.steps, literals);
+        return certify(n, edges, unknowns, starts, &blocks, path, end, literals);
     }
     if kind == 0 {
         return bare(Verdict::Nothing { steps: end.steps });
@@ -125,7 +129,14 @@ pub fn judge(graph: Graph, budget: u32, literals: &mut [i32]) -> Judged
 {
     if graph.is_well_formed() {
         if has_room(graph.order, literals.len()) {
-            return judge_formed(graph, budget, literals);
+            return judge_formed(
+                graph.order,
+                &graph.edges,
+                &graph.unknowns,
+                graph.starts,
+                budget,
+                literals,
+            );
         }
         return bare(Verdict::Refused {
             number: 5,

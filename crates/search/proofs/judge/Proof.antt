@@ -17,7 +17,7 @@ same-length c = search needs
 
 returns : tie.Need-returns
 returns c =
-    let fits = c .before .before .before in
+    let fits = c .before .before .before .before .before .before in
     let formed = fits .before .before in
     answers-judged _ _ _ _ (formed .before .is-well-formed .ensures) _ (fits .before .has-room .ensures) (formed .if1 .taken) _ _ (fits .if2 .taken) (c .before .judge-formed .ensures .0) (c .before .judge-formed .ensures .1)
 

@@ -1,15 +1,19 @@
 use borrow.Author.Needs.{needs}
+use Rattle.search.proofs.CodeSearch.{order-bounded}
 use Rattle.search.proofs.CodeJudge.{still-zeros, found-begins, found-won, answers-none, answers-cut, answers-first, none-buffer, cut-buffer, smaller-buffer}
 use Rattle.search.proofs.judge_formed.Statement.{statement}
 use Rattle.search.proofs.judge_formed.Tie as tie
+
+block-masks-requires : tie.Need-block-masks-requires
+block-masks-requires c κs = search order-bounded
 
 explore-requires : tie.Need-explore-requires
 explore-requires c κs = search needs
 
 certify-requires : tie.Need-certify-requires
 certify-requires c κs =
-    let end = c .before .before .explore in
-    (search needs, search needs, search needs, found-begins _ _ (end .result) _ (end .ensures .0) (c .before .if1 .taken), found-won _ _ (end .result) _ (end .ensures .0) (c .before .if1 .taken), search still-zeros)
+    let end = c .before .before .before .explore in
+    (search needs, search needs, search needs, search needs, found-begins _ _ (end .result) _ (end .ensures .0) (c .before .before .if1 .taken), found-won _ _ (end .result) _ (end .ensures .0) (c .before .before .if1 .taken), search still-zeros)
 
 same-length : tie.Need-same-length
 same-length c = search needs
@@ -37,6 +41,7 @@ pub judge-formed-spec : {M : Type 1} → statement M
 judge-formed-spec =
     tie.close
     (tie.spec
+    block-masks-requires
     explore-requires
     certify-requires
     same-length

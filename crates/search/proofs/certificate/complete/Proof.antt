@@ -5,13 +5,10 @@ use Rattle.search.proofs.certificate.complete.Statement.{statement}
 use Rattle.search.proofs.certificate.complete.Tie as tie
 
 abbrev Inv-loop : tie.InvT-loop
-Inv-loop n starts depth path₀ blocks used₀ d₀ path used d = Completing n starts depth blocks path₀ path used d
+Inv-loop n starts blocks depth path₀ used₀ d₀ path used d = Completing n starts depth blocks path₀ path used d
 
 abbrev μ-loop : tie.MeasureT-loop
-μ-loop n starts depth path₀ blocks used₀ d₀ path used d = n - d
-
-block-masks-requires : tie.Need-block-masks-requires Inv-loop μ-loop
-block-masks-requires c κs = search needs
+μ-loop n starts blocks depth path₀ used₀ d₀ path used d = n - d
 
 used-mask-requires : tie.Need-used-mask-requires Inv-loop μ-loop
 used-mask-requires c κs = search needs
@@ -22,8 +19,8 @@ loop-holds c = search completing-starts
 mul-without : tie.Need-mul-without Inv-loop μ-loop
 mul-without c = search needs
 
-array-read-without : tie.Need-array-read-without Inv-loop μ-loop
-array-read-without c = search needs
+element-copy-out-without : tie.Need-element-copy-out-without Inv-loop μ-loop
+element-copy-out-without c = search needs
 
 without-requires : tie.Need-without-requires Inv-loop μ-loop
 without-requires c κs = search needs
@@ -61,11 +58,10 @@ complete-spec =
     (tie.spec
     Inv-loop
     μ-loop
-    block-masks-requires
     used-mask-requires
     loop-holds
     mul-without
-    array-read-without
+    element-copy-out-without
     without-requires
     lowest-requires
     stored-requires

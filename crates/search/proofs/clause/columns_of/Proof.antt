@@ -1,6 +1,5 @@
 use borrow.Author.Needs.{needs}
 use Rattle.search.proofs.ClauseMasks.{columns-fit, columns-ahead}
-use borrow.Author.Needs.{needs}
 use Rattle.search.proofs.clause.columns_of.Statement.{statement}
 use Rattle.search.proofs.clause.columns_of.Tie as tie
 

@@ -1,6 +1,5 @@
 use borrow.Author.Needs.{needs}
 use Rattle.search.proofs.ClauseMasks.{firsts-all, firsts-some, firsts-none}
-use borrow.Author.Needs.{needs}
 use Rattle.search.proofs.clause.firsts.Statement.{statement}
 use Rattle.search.proofs.clause.firsts.Tie as tie
 

@@ -1,6 +1,5 @@
 use borrow.Author.Needs.{needs}
 use Rattle.search.proofs.CodeClause.{reached-rising, reached-falling}
-use borrow.Author.Needs.{needs}
 use Rattle.search.proofs.clause.is_reached_of.Statement.{statement}
 use Rattle.search.proofs.clause.is_reached_of.Tie as tie
 

@@ -1,6 +1,5 @@
 use borrow.Author.Needs.{needs}
 use Rattle.search.proofs.CodeClause.{kind-is}
-use borrow.Author.Needs.{needs}
 use Rattle.search.proofs.clause.kind_at.Statement.{statement}
 use Rattle.search.proofs.clause.kind_at.Tie as tie
 

@@ -1,7 +1,6 @@
 use borrow.Author.Needs.{needs}
 use Rattle.search.proofs.ClauseByKinds.{row-low, row-before, column-high, reorders, path-tested, clause-counted, clause-written}
 use Rattle.search.proofs.CodeSearch.{order-bounded}
-use borrow.Author.Needs.{needs}
 use Rattle.search.proofs.clause.write_clause.Statement.{statement}
 use Rattle.search.proofs.clause.write_clause.Tie as tie
 

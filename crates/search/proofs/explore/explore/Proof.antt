@@ -1,5 +1,5 @@
 use borrow.Author.Needs.{needs}
-use Rattle.search.proofs.CodeSearch.{order-bounded, path-kept, ends-none, last-low, last-high, last-used, climbs, ends-cut, low-place, mask-holds, used-fits, longer-arranged, longer-kept, ends-at-stop, past-stop, ends-full, past-full, goes-deeper}
+use Rattle.search.proofs.CodeSearch.{path-kept, ends-none, last-low, last-high, last-used, climbs, ends-cut, low-place, mask-holds, used-fits, longer-arranged, longer-kept, ends-at-stop, past-stop, ends-full, past-full, goes-deeper}
 use Prim.Native.Nat.{_+_, _-_, _*_}
 use Rattle.graph.proofs.Formed.{formed}
 use Rattle.search.specs.Code.{graphIn}
@@ -8,21 +8,18 @@ use Rattle.search.proofs.explore.explore.Statement.{statement}
 use Rattle.search.proofs.explore.explore.Tie as tie
 
 abbrev Inv-loop : tie.InvT-loop
-Inv-loop n edges unknowns starts budget path₀ blocks ones untried₀ stops₀ left₀ used₀ depth₀ steps₀ path untried stops left used depth steps =
+Inv-loop n edges unknowns starts blocks budget path₀ ones untried₀ stops₀ left₀ used₀ depth₀ steps₀ path untried stops left used depth steps =
     Searching (graphIn n edges unknowns starts) budget blocks path₀ path untried stops left used depth steps
 
 abbrev μ-loop : tie.MeasureT-loop
-μ-loop n edges unknowns starts budget path₀ blocks ones untried₀ stops₀ left₀ used₀ depth₀ steps₀ path untried stops left used depth steps =
+μ-loop n edges unknowns starts blocks budget path₀ ones untried₀ stops₀ left₀ used₀ depth₀ steps₀ path untried stops left used depth steps =
     (budget - steps) * 2 + depth
-
-block-masks-requires : tie.Need-block-masks-requires Inv-loop μ-loop
-block-masks-requires c κs = search (order-bounded, needs)
 
 edges-of-requires : tie.Need-edges-of-requires Inv-loop μ-loop
 edges-of-requires c κs = search needs
 
-array-read-left : tie.Need-array-read-left Inv-loop μ-loop
-array-read-left c = search needs
+element-copy-out-left : tie.Need-element-copy-out-left Inv-loop μ-loop
+element-copy-out-left c = search needs
 
 loop-holds : tie.Need-loop-holds Inv-loop μ-loop
 loop-holds c = search (begins, formed)
@@ -48,8 +45,8 @@ sub-used c = search (last-used, needs)
 mul-left : tie.Need-mul-left Inv-loop μ-loop
 mul-left c = search needs
 
-array-read-left-2 : tie.Need-array-read-left-2 Inv-loop μ-loop
-array-read-left-2 c = search needs
+array-read-left : tie.Need-array-read-left Inv-loop μ-loop
+array-read-left c = search needs
 
 loop-less : tie.Need-loop-less Inv-loop μ-loop
 loop-less c = search needs
@@ -132,8 +129,8 @@ add-depth c = search needs
 mul-without : tie.Need-mul-without Inv-loop μ-loop
 mul-without c = search needs
 
-array-read-without : tie.Need-array-read-without Inv-loop μ-loop
-array-read-without c = search needs
+element-copy-out-without : tie.Need-element-copy-out-without Inv-loop μ-loop
+element-copy-out-without c = search needs
 
 without-requires : tie.Need-without-requires Inv-loop μ-loop
 without-requires c κs = search needs
@@ -165,9 +162,8 @@ explore-spec =
     (tie.spec
     Inv-loop
     μ-loop
-    block-masks-requires
     edges-of-requires
-    array-read-left
+    element-copy-out-left
     loop-holds
     ended-requires
     returns
@@ -176,7 +172,7 @@ explore-spec =
     weight-of-requires
     sub-used
     mul-left
-    array-read-left-2
+    array-read-left
     loop-less
     loop-again
     ended-requires-2
@@ -204,7 +200,7 @@ explore-spec =
     add-used
     add-depth
     mul-without
-    array-read-without
+    element-copy-out-without
     without-requires
     loop-less-3
     loop-again-3

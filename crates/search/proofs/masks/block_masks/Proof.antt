@@ -2,27 +2,20 @@ use borrow.Author.Needs.{needs}
 use Prim.Native.Nat.{_-_, _≤_}
 use mathlib.Core.Path.{_≡_}
 use Rattle.rows.specs.Rows.{blockOf, placed}
-use Rattle.arrangements.specs.Arrangement.{at}
 use Rattle.rows.proofs.Filled.{placed-starts, placed-done}
-use Rattle.search.specs.Masks.{blockMask}
-use Rattle.search.proofs.CodeMasks.{mask-first, masks-more}
+use Rattle.search.specs.Masks.{blockMask, MaskOf}
+use Rattle.search.proofs.CodeMasks.{mask-first, mask-next, masks-more}
 use Rattle.search.proofs.masks.block_masks.Statement.{statement}
 use Rattle.search.proofs.masks.block_masks.Tie as tie
 
 abbrev Inv-loop : tie.InvT-loop
-Inv-loop n starts numbers out₀ mask₀ i₀ out mask i = (i ≤ n) × (numbers ≡ placed (blockOf starts) 32) × (mask ≡ blockMask (at numbers) n i) × (out ≡ placed (blockMask (blockOf starts) n) i)
+Inv-loop n starts out₀ mask₀ i₀ out mask i = (i ≤ n) × MaskOf starts n i mask × (out ≡ placed (blockMask (blockOf starts) n) i)
 
 abbrev μ-loop : tie.MeasureT-loop
-μ-loop n starts numbers out₀ mask₀ i₀ out mask i = n - i
-
-block-numbers-requires : tie.Need-block-numbers-requires Inv-loop μ-loop
-block-numbers-requires c κs = search needs
-
-block-mask-requires : tie.Need-block-mask-requires Inv-loop μ-loop
-block-mask-requires c κs = search needs
+μ-loop n starts out₀ mask₀ i₀ out mask i = n - i
 
 loop-holds : tie.Need-loop-holds Inv-loop μ-loop
-loop-holds c = (search needs, search needs, search mask-first, search placed-starts)
+loop-holds c = (search needs, search mask-first, search placed-starts)
 
 next-mask-requires : tie.Need-next-mask-requires Inv-loop μ-loop
 next-mask-requires c κs = search needs
@@ -43,7 +36,7 @@ loop-less : tie.Need-loop-less Inv-loop μ-loop
 loop-less c = search needs
 
 loop-again : tie.Need-loop-again Inv-loop μ-loop
-loop-again c = (search needs, search needs, search needs, search masks-more)
+loop-again c = (search needs, search mask-next, search masks-more)
 
 returns : tie.Need-returns Inv-loop μ-loop
 returns c = search (placed-done, needs)
@@ -54,8 +47,6 @@ block-masks-spec =
     (tie.spec
     Inv-loop
     μ-loop
-    block-numbers-requires
-    block-mask-requires
     loop-holds
     next-mask-requires
     cast-at
