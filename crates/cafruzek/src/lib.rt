@@ -66,7 +66,7 @@ pub extern "C" fn cafruzek_judge_record<'a, 'b, 'c>(
 ) -> u64
     ensures { λ r. ⌜ (r ≡ packed (judgeRecord (now (bytes .entry)) budget (length (now (literals .entry))))) × (now (literals .exit) ≡ judgeRecordBuffer (now (bytes .entry)) budget (now (literals .entry))) × (now (arrangement .exit) ≡ arrangedAfter (judgeRecord (now (bytes .entry)) budget (length (now (literals .entry)))) (now (arrangement .entry))) ⌝ }
 {
-    let found = record::read(bytes);
+    let found = reading::read(bytes);
     if found.refusal != 0 {
         return refused(found.refusal, found.place);
     }
@@ -100,7 +100,7 @@ pub extern "C" fn cafruzek_judge_rows<'a, 'b, 'c, 'd>(
 pub extern "C" fn cafruzek_record_size(bytes: &[u8]) -> u64
     ensures { λ r. ⌜ r ≡ packedExtent (recordAt (now (bytes .entry))) ⌝ }
 {
-    let found = record::record_at(bytes);
+    let found = reading::record_at(bytes);
     counted(found.refusal, found.place, found.bytes)
 }
 
@@ -116,6 +116,6 @@ pub extern "C" fn cafruzek_write_record<'a, 'b, 'c>(
 ) -> u64
     ensures { λ r. ⌜ (r ≡ packedWritten (writeAnswer (graphOf order (now (edges .entry)) (now (unknowns .entry)) starts) (now (out .entry)))) × (now (out .exit) ≡ bufferAfter (graphOf order (now (edges .entry)) (now (unknowns .entry)) starts) (now (out .entry))) ⌝ }
 {
-    let done = record::write(graph_of(order, edges, unknowns, starts), out);
+    let done = writing::write(graph_of(order, edges, unknowns, starts), out);
     counted(done.refusal, done.place, done.written)
 }

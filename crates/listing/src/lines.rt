@@ -50,12 +50,12 @@ fn put_record(bytes: &[u8], number: u32, out: &mut [u8]) -> Turn
     requires { ⌜ 8192 ≤ length (now out) ⌝ }
     ensures { λ r. ⌜ Put number (now (bytes .entry)) (now (out .entry)) (now (out .exit)) r ⌝ }
 {
-    let found = record::read(bytes);
+    let found = reading::read(bytes);
     let graph = found.graph;
     let mut literals = [0i32; 496];
     let judged = judged_record(found, &mut literals);
     let written = line::line(out, number, graph.order, judged, &literals);
-    let rest = record::rest(bytes);
+    let rest = reading::rest(bytes);
     Turn {
         written,
         taken: bytes.len() - rest.len(),

@@ -22,7 +22,7 @@ fn byte(b: u8) {
 
 // What reading these bytes gives: the first row stands for the graph's rows.
 fn show_read(name: &[u8], bytes: &[u8]) {
-    let r = record::read(bytes);
+    let r = reading::read(bytes);
     let g = r.graph;
     text(b"read ");
     text(name);
@@ -32,12 +32,12 @@ fn show_read(name: &[u8], bytes: &[u8]) {
     word(b" starts ", g.starts);
     word(b" edges ", g.edges[0]);
     word(b" unknowns ", g.unknowns[0]);
-    number(b" rest ", record::rest(bytes).len() as u64);
+    number(b" rest ", reading::rest(bytes).len() as u64);
     text(b"\n");
 }
 
 fn show_field(bytes: &[u8], place: usize, width: u32) {
-    let r = record::field(bytes, place, width);
+    let r = fields::field(bytes, place, width);
     number(b"field of ", bytes.len() as u64);
     number(b" bytes, place ", place as u64);
     word(b" width ", width);
@@ -62,7 +62,7 @@ fn show_write(name: &[u8], graph: Graph, room: usize) {
         return;
     }
     let mut out = [0xffu8; 4];
-    let r = record::write(graph, &mut out[..room]);
+    let r = writing::write(graph, &mut out[..room]);
     text(b"write ");
     text(name);
     number(b" into ", room as u64);
@@ -126,14 +126,14 @@ fn sizes() {
 }
 
 fn writes() {
-    let edge = record::read(b"\x08\x80").graph;
+    let edge = reading::read(b"\x08\x80").graph;
     show_write(b"08 80", edge, 1);
     show_write(b"08 80", edge, 2);
     show_write(b"08 80", edge, 4);
-    let one = record::read(b"\x04").graph;
+    let one = reading::read(b"\x04").graph;
     show_write(b"04", one, 0);
     show_write(b"04", one, 1);
-    let none = record::read(b"").graph;
+    let none = reading::read(b"").graph;
     show_write(b"order 0", none, 4);
 }
 

@@ -24,7 +24,7 @@ fn show(name: &[u8], order: u32, judged: Judged, literals: &[i32]) {
 
 // What judging the graph of a record within a budget gives.
 fn judge(name: &[u8], bytes: &[u8], budget: u32) {
-    let found = record::read(bytes);
+    let found = reading::read(bytes);
     let graph = found.graph;
     let mut literals = [0i32; 496];
     let judged = search::judge(graph, budget, &mut literals);
@@ -39,10 +39,10 @@ fn byte(b: u8) {
 
 // What writing the graph of a record of one or two bytes gives.
 fn write(name: &[u8], bytes: &[u8]) {
-    let found = record::read(bytes);
+    let found = reading::read(bytes);
     let graph = found.graph;
     let mut out = [0u8; 129];
-    let done = record::write(graph, &mut out);
+    let done = writing::write(graph, &mut out);
     text(name);
     text(b": record");
     byte(out[0]);
@@ -94,12 +94,12 @@ fn refusal(name: &[u8], refusal: u32, place: usize) {
 }
 
 fn read(name: &[u8], bytes: &[u8]) {
-    let found = record::read(bytes);
+    let found = reading::read(bytes);
     refusal(name, found.refusal, found.place);
 }
 
 fn field(name: &[u8], place: usize, width: u32) {
-    let found = record::field(b"\x0c\x40", place, width);
+    let found = fields::field(b"\x0c\x40", place, width);
     refusal(name, found.refusal, found.place);
 }
 
@@ -128,13 +128,13 @@ fn fields() {
 
 // The graph 100.
 fn sample() -> Graph {
-    let found = record::read(&[0x0c, 0x40]);
+    let found = reading::read(&[0x0c, 0x40]);
     found.graph
 }
 
 // Judging a graph of order 32 with room for 495 literals, and for 496.
 fn rooms() {
-    let found = record::read(&thirty_two());
+    let found = reading::read(&thirty_two());
     let graph = found.graph;
     let mut few = [0i32; 495];
     let refused = search::judge(graph, 1000, &mut few);
@@ -152,7 +152,7 @@ fn rooms() {
 // Writing into a buffer that is a byte short.
 fn short_buffer() {
     let mut out = [0u8; 1];
-    let done = record::write(sample(), &mut out);
+    let done = writing::write(sample(), &mut out);
     refusal(b"writing 100 into one byte", done.refusal, done.place);
 }
 
