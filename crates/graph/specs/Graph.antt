@@ -6,6 +6,10 @@ use Rattle.rows.specs.Rows.{entryIn, withMark, placed, mirrored}
 use Rattle.arrangements.specs.Arrangement.{at}
 use Rattle.graph.specs.declared.Graph.{Graph}
 
+-- the graph value of these rows
+abbrev pub graphOf : ℕ → List ℕ → List ℕ → ℕ → Graph
+graphOf order edges unknowns starts = record { order = order; edges = edges; unknowns = unknowns; starts = starts }
+
 -- the entry of g at (i, j)
 abbrev pub entry : Graph → ℕ → ℕ → ℕ
 entry g i j = entryIn (g .edges) (g .unknowns) i j

@@ -4,6 +4,7 @@ ghost use mathlib.Core.List.{_++_};
 ghost use Prim.Native.Nat.{_+_, _-_, _*_, _≤_, _<_};
 ghost use lib.ListN.{length, drop};
 ghost use Rattle.rows.specs.Rows.{startAt};
+ghost use Rattle.graph.specs.Graph.{graphOf};
 ghost use Rattle.laws.specs.Bit.{bit};
 ghost use Rattle.record.specs.Layout.{bitCount, byteCount, begin, cell};
 ghost use Rattle.record.specs.Writing.{recordOf};
@@ -74,16 +75,24 @@ fn put_starts(g: Graph, out: &mut [u8], pen: Pen) -> Pen
 }
 
 // The entries of row i.
-fn put_row(g: Graph, out: &mut [u8], pen: Pen, i: u32) -> Pen
-    requires { ⌜ (g .order ≤ 32) × (1 ≤ i) × (i < g .order) × Reached g (now out) (now out) pen (cell (g .order) i (i + 1)) ⌝ }
-    ensures { λ r. ⌜ Reached g (now (out .entry)) (now (out .exit)) r (cell (g .order) (i + 1) (i + 1 + 1)) ⌝ }
+fn put_row<'a, 'b>(
+    order: u32,
+    edges: &'a [u32; 32],
+    unknowns: &'a [u32; 32],
+    starts: u32,
+    out: &'b mut [u8],
+    pen: Pen,
+    i: u32,
+) -> Pen
+    requires { ⌜ (order ≤ 32) × (1 ≤ i) × (i < order) × Reached (graphOf order (now edges) (now unknowns) starts) (now out) (now out) pen (cell order i (i + 1)) ⌝ }
+    ensures { λ r. ⌜ Reached (graphOf order (now (edges .entry)) (now (unknowns .entry)) starts) (now (out .entry)) (now (out .exit)) r (cell order (i + 1) (i + 1 + 1)) ⌝ }
 {
     let k = (i - 1) as usize;
-    let e = g.edges[k];
-    let u = g.unknowns[k];
+    let e = edges[k];
+    let u = unknowns[k];
     let mut at = pen;
     let mut j = i + 1;
-    while j <= g.order {
+    while j <= order {
         at = push(out, at, entry_of(e, u, j), 2);
         j += 1;
     }
@@ -91,14 +100,21 @@ fn put_row(g: Graph, out: &mut [u8], pen: Pen, i: u32) -> Pen
 }
 
 // The entries of all rows.
-fn put_rows(g: Graph, out: &mut [u8], pen: Pen) -> Pen
-    requires { ⌜ (1 ≤ g .order) × (g .order ≤ 32) × Reached g (now out) (now out) pen (cell (g .order) 1 2) ⌝ }
-    ensures { λ r. ⌜ Reached g (now (out .entry)) (now (out .exit)) r (bitCount (g .order)) ⌝ }
+fn put_rows<'a, 'b>(
+    order: u32,
+    edges: &'a [u32; 32],
+    unknowns: &'a [u32; 32],
+    starts: u32,
+    out: &'b mut [u8],
+    pen: Pen,
+) -> Pen
+    requires { ⌜ (1 ≤ order) × (order ≤ 32) × Reached (graphOf order (now edges) (now unknowns) starts) (now out) (now out) pen (cell order 1 2) ⌝ }
+    ensures { λ r. ⌜ Reached (graphOf order (now (edges .entry)) (now (unknowns .entry)) starts) (now (out .entry)) (now (out .exit)) r (bitCount order) ⌝ }
 {
     let mut at = pen;
     let mut i = 1;
-    while i < g.order {
-        at = put_row(g, out, at, i);
+    while i < order {
+        at = put_row(order, edges, unknowns, starts, out, at, i);
         i += 1;
     }
     at
@@ -120,6 +136,6 @@ pub fn put(g: Graph, out: &mut [u8])
         6,
     );
     let started = put_starts(g, out, ordered);
-    let done = put_rows(g, out, started);
+    let done = put_rows(g.order, &g.edges, &g.unknowns, g.starts, out, started);
     let last = push(out, done, 0, (8 - done.have) % 8);
 }

@@ -11,7 +11,7 @@ put-starts-requires : tie.Need-put-starts-requires
 put-starts-requires c κs = search (order-begins, needs)
 
 put-rows-requires : tie.Need-put-rows-requires
-put-rows-requires c κs = (search needs, search needs, from-here _ _ _ _ _ (c .before .before .before .put-starts .ensures))
+put-rows-requires c κs = (search needs, search needs, from-here _ _ _ _ _ (c .before .before .before .before .before .before .put-starts .ensures))
 
 sub-push : tie.Need-sub-push
 sub-push c = search needs
@@ -23,7 +23,7 @@ same-length : tie.Need-same-length
 same-length c = search needs
 
 returns : tie.Need-returns
-returns c = search (pad-pushed, needs)
+returns c = let rows = c .before .before .before .before .before .before .before in let starts = rows .before .before .before .before .before .before .before in let given = starts .before .before .before .before .before .before .before .pre in pad-pushed _ _ (given .0) (given .1) (given .2) _ _ _ _ _ _ _ _ (starts .before .before .before .before .push .ensures) (starts .put-starts .ensures) (rows .put-rows .ensures) (c .before .before .push2 .ensures)
 
 pub put-spec : {M : Type 1} → statement M
 put-spec =

@@ -1,16 +1,17 @@
-use borrow.Author.Needs.{needs}
 use Prim.Native.Nat.{_+_, _-_, _≤_, _<_}
-use Rattle.record.specs.Layout.{begin, cell}
+use borrow.Author.Needs.{needs}
+use Rattle.graph.specs.Graph.{graphOf}
+use Rattle.record.specs.Layout.{cell}
 use Rattle.writing.specs.Reached.{Reached}
 use Rattle.writing.proofs.PutLaws.{entry-room, entry-pushed, row-done}
 use Rattle.writing.proofs.pen.put_row.Statement.{statement}
 use Rattle.writing.proofs.pen.put_row.Tie as tie
 
 abbrev Inv-loop : tie.InvT-loop
-Inv-loop out₀ i g k e u at₀ j₀ out at j = (i < j) × (j ≤ g .order + 1) × Reached g out₀ out at (cell (g .order) i j)
+Inv-loop order edges unknowns starts out₀ i k e u at₀ j₀ out at j = (i < j) × (j ≤ order + 1) × Reached (graphOf order edges unknowns starts) out₀ out at (cell order i j)
 
 abbrev μ-loop : tie.MeasureT-loop
-μ-loop out₀ i g k e u at₀ j₀ out at j = g .order + 1 - j
+μ-loop order edges unknowns starts out₀ i k e u at₀ j₀ out at j = order + 1 - j
 
 sub-k : tie.Need-sub-k Inv-loop μ-loop
 sub-k c = search needs
@@ -40,7 +41,7 @@ entry-of-requires : tie.Need-entry-of-requires Inv-loop μ-loop
 entry-of-requires c κs = search needs
 
 push-requires : tie.Need-push-requires Inv-loop μ-loop
-push-requires c κs = search (entry-room, needs)
+push-requires c κs = let inv = c .before .before .before .loop .inv in (search needs, search needs, search needs, search needs, entry-room _ _ _ _ _ _ (inv .2) (search needs) (inv .0) (search needs))
 
 add-j-2 : tie.Need-add-j-2 Inv-loop μ-loop
 add-j-2 c = search needs
@@ -49,12 +50,7 @@ loop-less : tie.Need-loop-less Inv-loop μ-loop
 loop-less c = search needs
 
 loop-again : tie.Need-loop-again Inv-loop μ-loop
-loop-again c =
-    let inv = c .before .before .before .before .before .before .loop .inv in (
-      search needs,
-      search needs,
-      entry-pushed _ _ _ _ _ _ (inv .2) (search needs) (inv .0) _ _ _ (search needs) (c .before .before .before .entry-of .ensures .0) (c .before .before .push .ensures),
-    )
+loop-again c = let inv = c .before .before .before .before .before .before .loop .inv in (search needs, search needs, entry-pushed _ _ _ _ _ _ (inv .2) (search needs) (inv .0) _ _ _ (search needs) (c .before .before .before .entry-of .ensures .0) (c .before .before .push .ensures))
 
 same-length : tie.Need-same-length Inv-loop μ-loop
 same-length c = search needs

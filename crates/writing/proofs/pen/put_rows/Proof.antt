@@ -1,6 +1,7 @@
+use Prim.Native.Nat.{_+_, _-_, _≤_}
 use borrow.Author.Needs.{needs}
-use Prim.Native.Nat.{_+_, _-_, _≤_, _<_}
-use Rattle.record.specs.Layout.{begin, cell}
+use Rattle.graph.specs.Graph.{graphOf}
+use Rattle.record.specs.Layout.{cell}
 use Rattle.writing.specs.Reached.{Reached}
 use Rattle.writing.proofs.Reached.{from-here}
 use Rattle.writing.proofs.PutLaws.{row-turns, rows-done}
@@ -8,10 +9,10 @@ use Rattle.writing.proofs.pen.put_rows.Statement.{statement}
 use Rattle.writing.proofs.pen.put_rows.Tie as tie
 
 abbrev Inv-loop : tie.InvT-loop
-Inv-loop g out₀ at₀ i₀ out at i = (1 ≤ i) × (i ≤ g .order) × Reached g out₀ out at (cell (g .order) i (i + 1))
+Inv-loop order edges unknowns starts out₀ at₀ i₀ out at i = (1 ≤ i) × (i ≤ order) × Reached (graphOf order edges unknowns starts) out₀ out at (cell order i (i + 1))
 
 abbrev μ-loop : tie.MeasureT-loop
-μ-loop g out₀ at₀ i₀ out at i = g .order - i
+μ-loop order edges unknowns starts out₀ at₀ i₀ out at i = order - i
 
 loop-holds : tie.Need-loop-holds Inv-loop μ-loop
 loop-holds c = search needs
