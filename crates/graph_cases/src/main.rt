@@ -3,45 +3,23 @@
 use graph::Arrangement;
 use graph::Change;
 use graph::Graph;
-use libc::STDOUT_FILENO;
+use show::number;
+use show::text;
+use show::word;
 
 // ---- what is printed
 
-fn wide(x: u32) -> u64 {
-    x as u64
-}
-
-fn small(x: u8) -> u64 {
-    x as u64
-}
-
-fn text(s: &[u8]) {
-    io::write_all(STDOUT_FILENO, s);
-}
-
-fn number(x: u64) {
-    text(b" ");
-    io::print_decimal(STDOUT_FILENO, x);
-}
-
-fn named(name: &[u8], x: u32) {
-    text(name);
-    number(wide(x));
-}
-
 fn three(name: &[u8], words: [u32; 32]) {
-    text(name);
-    number(wide(words[0]));
-    number(wide(words[1]));
-    number(wide(words[2]));
+    word(name, words[0]);
+    word(b" ", words[1]);
+    word(b" ", words[2]);
 }
 
 fn four(name: &[u8], vertices: [u8; 32]) {
-    text(name);
-    number(small(vertices[0]));
-    number(small(vertices[1]));
-    number(small(vertices[2]));
-    number(small(vertices[3]));
+    number(name, vertices[0] as u64);
+    number(b" ", vertices[1] as u64);
+    number(b" ", vertices[2] as u64);
+    number(b" ", vertices[3] as u64);
 }
 
 // The end of what names a case.
@@ -54,21 +32,20 @@ fn of(good: bool) {
 }
 
 fn refusal(refusal: u32, place: usize) {
-    named(b" refusal", refusal);
-    text(b", place");
-    number(place as u64);
+    word(b" refusal ", refusal);
+    number(b", place ", place as u64);
 }
 
 // Rows 1, 2 and 3 of a graph of order 3.
 fn change(c: Change) {
     refusal(c.refusal, c.place);
     let g = c.graph;
-    named(b", order", g.order);
-    named(b", starts", g.starts);
+    word(b", order ", g.order);
+    word(b", starts ", g.starts);
     let edges = g.edges;
-    three(b", edges", edges);
+    three(b", edges ", edges);
     let unknowns = g.unknowns;
-    three(b", unknowns", unknowns);
+    three(b", unknowns ", unknowns);
     text(b"\n");
 }
 
@@ -76,7 +53,7 @@ fn change(c: Change) {
 fn arrangement(a: Arrangement) {
     refusal(a.refusal, a.place);
     let vertices = a.vertices;
-    four(b", vertices", vertices);
+    four(b", vertices ", vertices);
     text(b"\n");
 }
 
@@ -128,19 +105,19 @@ fn formed(case: &[u8], g: Graph) {
 }
 
 fn read(good: bool, i: u32, j: u32) {
-    named(b"read", i);
-    number(wide(j));
+    word(b"read ", i);
+    word(b" ", j);
     of(good);
     let r = sample(good).read(i, j);
     refusal(r.refusal, r.place);
-    named(b", value", r.value);
+    word(b", value ", r.value);
     text(b"\n");
 }
 
 fn set(good: bool, i: u32, j: u32, value: u32) {
-    named(b"set", i);
-    number(wide(j));
-    named(b" to", value);
+    word(b"set ", i);
+    word(b" ", j);
+    word(b" to ", value);
     of(good);
     change(sample(good).set(i, j, value));
 }
@@ -150,38 +127,38 @@ fn count(good: bool) {
     of(good);
     let t = sample(good).count();
     refusal(t.refusal, t.place);
-    named(b", edges", t.edges);
-    named(b", non-edges", t.non_edges);
-    named(b", unknowns", t.unknowns);
+    word(b", edges ", t.edges);
+    word(b", non-edges ", t.non_edges);
+    word(b", unknowns ", t.unknowns);
     text(b"\n");
 }
 
 fn count_at(good: bool, v: u32) {
-    named(b"count at", v);
+    word(b"count at ", v);
     of(good);
     let d = sample(good).count_at(v);
     refusal(d.refusal, d.place);
-    named(b", edges", d.edges);
+    word(b", edges ", d.edges);
     text(b"\n");
 }
 
 fn relabel(good: bool, p: [u8; 32]) {
-    four(b"relabel by", p);
+    four(b"relabel by ", p);
     of(good);
     change(sample(good).relabel(p));
 }
 
 fn compose(order: u32, p: [u8; 32], q: [u8; 32]) {
-    named(b"at order", order);
-    four(b" compose", p);
-    four(b" with", q);
+    word(b"at order ", order);
+    four(b" compose ", p);
+    four(b" with ", q);
     text(b":");
     arrangement(graph::compose(order, p, q));
 }
 
 fn invert(order: u32, p: [u8; 32]) {
-    named(b"at order", order);
-    four(b" invert", p);
+    word(b"at order ", order);
+    four(b" invert ", p);
     text(b":");
     arrangement(graph::invert(order, p));
 }

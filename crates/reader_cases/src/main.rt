@@ -1,18 +1,10 @@
 // Reads the fields of a record through a reader, two at a time, to its end and past it, and writes a line for each two.
-use libc::STDOUT_FILENO;
 use fields::Value;
 use fields::reader::take_two;
+use show::number;
+use show::text;
 
-fn text(words: &[u8]) {
-    io::write_all(STDOUT_FILENO, words);
-}
-
-fn number(name: &[u8], n: u64) {
-    text(name);
-    io::print_decimal(STDOUT_FILENO, n);
-}
-
-fn show(width: u32, found: Value) {
+fn show_field(width: u32, found: Value) {
     number(b"; width ", width as u64);
     number(b": refusal ", found.refusal as u64);
     number(b" place ", found.place as u64);
@@ -25,8 +17,8 @@ fn show_two(bytes: &[u8], place: usize, first: u32, second: u32) -> usize {
     number(b"reader at ", place as u64);
     number(b" of ", bytes.len() as u64);
     text(b" bytes");
-    show(first, two.first);
-    show(second, two.second);
+    show_field(first, two.first);
+    show_field(second, two.second);
     number(b"; reader at ", two.next as u64);
     text(b"\n");
     two.next

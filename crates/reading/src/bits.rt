@@ -17,11 +17,7 @@ fn wide(byte: u8) -> u64
 pub fn byte_at(bytes: &[u8], k: usize) -> u64
     ensures { λ r. ⌜ (r ≡ getD (now (bytes .entry)) k 0) × (r < 256) ⌝ }
 {
-    if k < bytes.len() {
-        wide(bytes[k])
-    } else {
-        0
-    }
+    if k < bytes.len() { wide(bytes[k]) } else { 0 }
 }
 
 // The bits from a place to the end of its byte.

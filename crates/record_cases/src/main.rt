@@ -1,24 +1,9 @@
 // Runs worked records and fields, and writes a line for what each call gives.
 use graph::Graph;
-use libc::STDOUT_FILENO;
-
-fn text(words: &[u8]) {
-    io::write_all(STDOUT_FILENO, words);
-}
-
-fn number(name: &[u8], n: u64) {
-    text(name);
-    io::print_decimal(STDOUT_FILENO, n);
-}
-
-fn word(name: &[u8], w: u32) {
-    number(name, w as u64);
-}
-
-fn byte(b: u8) {
-    text(b" ");
-    io::print_hex(STDOUT_FILENO, b as u64, 2);
-}
+use show::byte;
+use show::number;
+use show::text;
+use show::word;
 
 // What reading these bytes gives: the first row stands for the graph's rows.
 fn show_read(name: &[u8], bytes: &[u8]) {

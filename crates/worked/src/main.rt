@@ -2,14 +2,10 @@
 use graph::Graph;
 use libc::STDOUT_FILENO;
 use search::Judged;
-
-fn text(words: &[u8]) {
-    io::write_all(STDOUT_FILENO, words);
-}
-
-fn number(n: u64) {
-    io::print_decimal(STDOUT_FILENO, n);
-}
+use show::byte;
+use show::number;
+use show::text;
+use show::word;
 
 // ---- graphs, each by its record
 
@@ -29,12 +25,6 @@ fn judge(name: &[u8], bytes: &[u8], budget: u32) {
     let mut literals = [0i32; 496];
     let judged = search::judge(graph, budget, &mut literals);
     show(name, graph.order, judged, &literals);
-}
-
-// A byte of a record.
-fn byte(b: u8) {
-    text(b" ");
-    io::print_hex(STDOUT_FILENO, b as u64, 2);
 }
 
 // What writing the graph of a record of one or two bytes gives.
@@ -86,10 +76,8 @@ fn blocks_and_unknowns() {
 
 fn refusal(name: &[u8], refusal: u32, place: usize) {
     text(name);
-    text(b": refusal ");
-    number(refusal as u64);
-    text(b", place ");
-    number(place as u64);
+    word(b": refusal ", refusal);
+    number(b", place ", place as u64);
     text(b"\n");
 }
 

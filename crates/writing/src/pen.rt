@@ -10,8 +10,8 @@ ghost use Rattle.record.specs.Layout.{bitCount, byteCount, begin, cell};
 ghost use Rattle.record.specs.Writing.{recordOf};
 ghost use Rattle.writing.specs.Pushed.{IsPushed};
 ghost use Rattle.writing.specs.Reached.{Reached};
-use rows::words::power;
 use graph::Graph;
+use rows::words::power;
 
 // How many bytes are stored, how many bits wait for the next one, and these bits as a number.
 struct Pen {
