@@ -9,8 +9,8 @@ use lib.Dec.{eqb, leb, ltb}
 use Rattle.laws.specs.TestLaws.{pick-true, pick-false}
 use Rattle.graph.specs.declared.Graph.{Graph}
 use Rattle.record.specs.Answers.{recordAt, writeAnswer}
-use Rattle.search.specs.declared.Judged.{Judged}
-use Rattle.search.specs.Answer.{told}
+use Rattle.judging.specs.declared.Judged.{Judged}
+use Rattle.judging.specs.Answer.{told}
 use Rattle.cafruzek.specs.Packing.{fields, lowIn, rowIn, columnIn, literalsIn, codeIn, placeTold, refusal, lowTold, packed, counted, packedExtent, packedWritten}
 use Rattle.cafruzek.proofs.Fields.{Fitting, low-is, row-is, column-is, literals-are, code-is, word-fits}
 use Rattle.cafruzek.proofs.Bounds.{place-fits, Bounded, judged-fits, extent-small, written-small}

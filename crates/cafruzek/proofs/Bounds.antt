@@ -25,12 +25,12 @@ use Rattle.fields.proofs.BitLaws.{bit-small}
 use Rattle.record.proofs.Refused.{first-refused}
 use Rattle.record.proofs.SizeLaws.{bytes-high}
 use Rattle.walk.specs.Words.{StandsIn}
-use Rattle.search.specs.declared.Judged.{Judged}
-use Rattle.search.specs.declared.Verdict.the-variants.{Refused}
-use Rattle.search.specs.Judging.{image}
-use Rattle.search.specs.Answer.{told, without, judgeAnswer}
-use Rattle.search.proofs.Exact.{InWords, malformed, cramped, cut-off, none-smaller, found-smaller, judged-in-words}
-use Rattle.search.proofs.Buffer.{clause-fits}
+use Rattle.judging.specs.declared.Judged.{Judged}
+use Rattle.judging.specs.declared.Verdict.the-variants.{Refused}
+use Rattle.judging.specs.Judging.{image}
+use Rattle.judging.specs.Answer.{told, without, judgeAnswer}
+use Rattle.judging.proofs.Exact.{InWords, malformed, cramped, cut-off, none-smaller, found-smaller, judged-in-words}
+use Rattle.judging.proofs.Buffer.{clause-fits}
 use Rattle.cafruzek.specs.Packing.{placeTold, lowTold}
 use Rattle.cafruzek.specs.Answers.{judgeRecord}
 use Rattle.cafruzek.proofs.Fields.{Fitting}

@@ -11,12 +11,12 @@ use lib.Dec.{eqb}
 use Rattle.laws.specs.Test.{pick}
 use Rattle.graph.specs.declared.Graph.{Graph}
 use Rattle.record.specs.Answers.{readAnswer}
-use Rattle.search.specs.declared.Verdict.{Verdict}
-use Rattle.search.specs.declared.Verdict.the-variants.{Smaller, Nothing, Cut, Refused}
-use Rattle.search.specs.declared.Judged.{Judged}
-use Rattle.search.specs.Answer.{told, without, judgeAnswer, judgeBuffer}
-use Rattle.search.proofs.Exact.{InWords, malformed, cramped, cut-off, none-smaller, found-smaller, judged-in-words}
-use Rattle.search.proofs.Buffer.{buffer-unchanged}
+use Rattle.judging.specs.declared.Verdict.{Verdict}
+use Rattle.judging.specs.declared.Verdict.the-variants.{Smaller, Nothing, Cut, Refused}
+use Rattle.judging.specs.declared.Judged.{Judged}
+use Rattle.judging.specs.Answer.{told, without, judgeAnswer, judgeBuffer}
+use Rattle.judging.proofs.Exact.{InWords, malformed, cramped, cut-off, none-smaller, found-smaller, judged-in-words}
+use Rattle.judging.proofs.Buffer.{buffer-unchanged}
 use Rattle.cafruzek.specs.Answers.{arrangedBy, arrangedAfter, judgeRecord, judgeRecordBuffer}
 
 -- ---- the arrangement

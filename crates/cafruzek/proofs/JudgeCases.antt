@@ -10,10 +10,10 @@ use lib.IntN.{ℤ}
 use lib.Dec.{ltb}
 use Rattle.laws.specs.Test.{pick}
 use Rattle.graph.specs.declared.Graph.{Graph}
-use Rattle.search.specs.declared.Verdict.the-variants.{Smaller, Nothing, Cut, Refused}
-use Rattle.search.specs.declared.Judged.{Judged}
-use Rattle.search.specs.Answer.{told, judgeAnswer, judgeBuffer}
-use Rattle.search.proofs.Buffer.{zeros-beside}
+use Rattle.judging.specs.declared.Verdict.the-variants.{Smaller, Nothing, Cut, Refused}
+use Rattle.judging.specs.declared.Judged.{Judged}
+use Rattle.judging.specs.Answer.{told, judgeAnswer, judgeBuffer}
+use Rattle.judging.proofs.Buffer.{zeros-beside}
 use Rattle.cafruzek.specs.Packing.{fields, refusal, lowTold, packed}
 use Rattle.cafruzek.specs.Answers.{arrangedBy, arrangedAfter}
 use Rattle.cafruzek.proofs.Bounds.{Bounded, judged-bounded}

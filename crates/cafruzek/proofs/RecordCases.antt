@@ -14,7 +14,7 @@ use Rattle.record.specs.declared.Extent.{Extent}
 use Rattle.record.specs.declared.Record.{Record}
 use Rattle.record.specs.declared.Written.{Written}
 use Rattle.record.specs.Answers.{recordAt, readAnswer, writeAnswer, bufferAfter}
-use Rattle.search.specs.Answer.{told, without, judgeAnswer, judgeBuffer}
+use Rattle.judging.specs.Answer.{told, without, judgeAnswer, judgeBuffer}
 use Rattle.cafruzek.specs.Packing.{refusal, lowTold, packed, packedExtent, packedWritten}
 use Rattle.cafruzek.specs.Answers.{arrangedBy, arrangedAfter, judgeRecord, judgeRecordBuffer}
 use Rattle.cafruzek.proofs.Bounds.{extent-small, read-small, written-small}

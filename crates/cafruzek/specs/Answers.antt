@@ -6,10 +6,10 @@ use lib.Dec.{eqb}
 use Rattle.laws.specs.Test.{pick}
 use Rattle.graph.specs.declared.Graph.{Graph}
 use Rattle.record.specs.Answers.{readAnswer}
-use Rattle.search.specs.declared.Verdict.{Verdict}
-use Rattle.search.specs.declared.Verdict.the-variants.{Smaller, Nothing, Cut, Refused}
-use Rattle.search.specs.declared.Judged.{Judged}
-use Rattle.search.specs.Answer.{without, judgeAnswer, judgeBuffer}
+use Rattle.judging.specs.declared.Verdict.{Verdict}
+use Rattle.judging.specs.declared.Verdict.the-variants.{Smaller, Nothing, Cut, Refused}
+use Rattle.judging.specs.declared.Judged.{Judged}
+use Rattle.judging.specs.Answer.{without, judgeAnswer, judgeBuffer}
 
 -- ---- the arrangement that was lent
 

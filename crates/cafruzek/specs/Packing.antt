@@ -5,8 +5,8 @@ use lib.Dec.{eqb, leb, ltb}
 use Rattle.laws.specs.Test.{pick}
 use Rattle.record.specs.declared.Extent.{Extent}
 use Rattle.record.specs.declared.Written.{Written}
-use Rattle.search.specs.declared.Judged.{Judged}
-use Rattle.search.specs.Answer.{Told, told}
+use Rattle.judging.specs.declared.Judged.{Judged}
+use Rattle.judging.specs.Answer.{Told, told}
 
 -- ---- fields
 

@@ -3,15 +3,15 @@
 // standing pair; 44..52 how many literals were written; 56..63 the code: 0 none, 1 smaller, 2 cut, 128 and the number of a
 // refusal.
 use graph::Graph;
+use judging::Verdict;
 use packing::counted;
 use packing::joined;
 use packing::refused;
-use search::Verdict;
 use search::judge;
 ghost use mathlib.Core.Path.{_≡_};
 ghost use lib.ListN.{length};
 ghost use Rattle.record.specs.Answers.{recordAt, writeAnswer, bufferAfter};
-ghost use Rattle.search.specs.Answer.{judgeAnswer, judgeBuffer};
+ghost use Rattle.judging.specs.Answer.{judgeAnswer, judgeBuffer};
 ghost use Rattle.cafruzek.specs.Packing.{packed, packedExtent, packedWritten};
 ghost use Rattle.cafruzek.specs.Answers.{arrangedAfter, graphOf, judgeRecord, judgeRecordBuffer};
 

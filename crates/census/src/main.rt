@@ -1,9 +1,9 @@
 // Judges every fully drawn graph of small orders in one block, and writes how many of each order are judged "none" and
 // how many of these are connected.
 use graph::Graph;
+use judging::Verdict;
 use libc::STDOUT_FILENO;
 use rows::entries::mark;
-use search::Verdict;
 ghost use mathlib.Core.Path.{_≡_};
 ghost use Prim.Native.Nat.{_≤_, _<_};
 ghost use lib.ListN.{length};

@@ -8,9 +8,9 @@ use lib.Dec.{ltb}
 use lib.IntN.{ℤ, pos, negsuc}
 use lib.ListN.{length, take, length-append, length-take}
 use Rattle.laws.specs.Test.{pick}
-use Rattle.search.specs.declared.Verdict.{Verdict}
-use Rattle.search.specs.declared.Verdict.the-variants.{Smaller, Nothing, Cut, Refused}
-use Rattle.search.specs.declared.Judged.{Judged}
+use Rattle.judging.specs.declared.Verdict.{Verdict}
+use Rattle.judging.specs.declared.Verdict.the-variants.{Smaller, Nothing, Cut, Refused}
+use Rattle.judging.specs.declared.Judged.{Judged}
 use Rattle.line.specs.Text.{bytesOf}
 use Rattle.line.specs.Decimal.{digits, fewest, decimal, signed}
 use Rattle.line.specs.Fields.{others, listed}

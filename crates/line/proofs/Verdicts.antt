@@ -4,9 +4,9 @@ use mathlib.Core.Path.{_≡_}
 use mathlib.Core.List.{List, []}
 use lib.IntN.{ℤ}
 use lib.ListN.{length, take}
-use Rattle.search.specs.declared.Verdict.{Verdict}
-use Rattle.search.specs.declared.Verdict.the-variants.{Smaller, Nothing, Cut, Refused}
-use Rattle.search.specs.declared.Judged.{Judged}
+use Rattle.judging.specs.declared.Verdict.{Verdict}
+use Rattle.judging.specs.declared.Verdict.the-variants.{Smaller, Nothing, Cut, Refused}
+use Rattle.judging.specs.declared.Judged.{Judged}
 use Rattle.line.specs.Text.{bytesOf}
 use Rattle.line.specs.Page.{page, written, poured}
 use Rattle.line.specs.Line.{lineOf, verdictLine, judgedLine}

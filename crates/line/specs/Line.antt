@@ -3,9 +3,9 @@ use Prim.Native.Nat.{ℕ}
 use mathlib.Core.List.{List, [], _∷_, _++_}
 use lib.IntN.{ℤ}
 use lib.ListN.{take}
-use Rattle.search.specs.declared.Verdict.{Verdict}
-use Rattle.search.specs.declared.Verdict.the-variants.{Smaller, Nothing, Cut, Refused}
-use Rattle.search.specs.declared.Judged.{Judged}
+use Rattle.judging.specs.declared.Verdict.{Verdict}
+use Rattle.judging.specs.declared.Verdict.the-variants.{Smaller, Nothing, Cut, Refused}
+use Rattle.judging.specs.declared.Judged.{Judged}
 use Rattle.line.specs.Text.{bytesOf}
 use Rattle.line.specs.Decimal.{decimal, signed}
 use Rattle.line.specs.Fields.{listed}

@@ -3,8 +3,8 @@ use mathlib.Core.Path.{_≡_, refl}
 use mathlib.Core.List.{_∷_}
 use lib.IntN.{pos, negsuc}
 use lib.ListN.{replicate}
-use Rattle.search.specs.declared.Verdict.the-variants.{Smaller, Nothing, Refused}
-use Rattle.search.specs.Answer.{without}
+use Rattle.judging.specs.declared.Verdict.the-variants.{Smaller, Nothing, Refused}
+use Rattle.judging.specs.Answer.{without}
 use Rattle.line.specs.Text.{bytesOf}
 use Rattle.line.specs.Decimal.{digits, fewest, decimal, signed}
 use Rattle.line.specs.Fields.{others, listed}

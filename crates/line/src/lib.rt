@@ -6,9 +6,9 @@ mod page;
 
 use fields::put_bare;
 use fields::put_line;
+use judging::Judged;
+use judging::Verdict;
 use page::put;
-use search::Judged;
-use search::Verdict;
 ghost use mathlib.Core.Path.{_≡_};
 ghost use Prim.Native.Nat.{min};
 ghost use lib.ListN.{length, take};

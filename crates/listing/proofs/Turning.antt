@@ -11,9 +11,9 @@ use lib.Dec.{eqb}
 use Rattle.laws.specs.TestLaws.{pick-true, pick-false}
 use Rattle.record.specs.declared.Record.{Record}
 use Rattle.record.specs.Answers.{recordAt, readAnswer, restOf}
-use Rattle.search.specs.declared.Verdict.the-variants.{Refused}
-use Rattle.search.specs.declared.Judged.{Judged}
-use Rattle.search.specs.Answer.{without, judgeAnswer, judgeBuffer}
+use Rattle.judging.specs.declared.Verdict.the-variants.{Refused}
+use Rattle.judging.specs.declared.Judged.{Judged}
+use Rattle.judging.specs.Answer.{without, judgeAnswer, judgeBuffer}
 use Rattle.line.specs.Page.{poured}
 use Rattle.line.specs.Line.{judgedLine}
 use Rattle.line.proofs.Room.{line-room}

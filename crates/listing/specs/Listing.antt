@@ -7,9 +7,9 @@ use lib.Dec.{eqb}
 use Rattle.laws.specs.Test.{pick}
 use Rattle.record.specs.declared.Record.{Record}
 use Rattle.record.specs.Answers.{readAnswer, restOf}
-use Rattle.search.specs.declared.Verdict.the-variants.{Refused}
-use Rattle.search.specs.declared.Judged.{Judged}
-use Rattle.search.specs.Answer.{without, judgeAnswer, judgeBuffer}
+use Rattle.judging.specs.declared.Verdict.the-variants.{Refused}
+use Rattle.judging.specs.declared.Judged.{Judged}
+use Rattle.judging.specs.Answer.{without, judgeAnswer, judgeBuffer}
 use Rattle.line.specs.Line.{judgedLine}
 
 -- how many steps judging may take

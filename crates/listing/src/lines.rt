@@ -1,11 +1,11 @@
 // The lines of a book, put into a lent buffer.
+use judging::Judged;
+use judging::Verdict;
 use record::Record;
-use search::Judged;
-use search::Verdict;
 ghost use mathlib.Core.Path.{_≡_};
 ghost use Prim.Native.Nat.{_+_, _≤_, _<_};
 ghost use lib.ListN.{length};
-ghost use Rattle.search.specs.Answer.{without};
+ghost use Rattle.judging.specs.Answer.{without};
 ghost use Rattle.listing.specs.Listing.{judgedRecord, literalsOf};
 ghost use Rattle.listing.specs.Progress.{Put, Listed};
 

@@ -4,6 +4,7 @@ use native.Mathlib.Omega.{arith}
 use native.Mathlib.Nat.{one-mul}
 use mathlib.Core.Path.{_≡_, ap₂, _∙_}
 use mathlib.Core.List.{List}
+use lib.Bits.{bitAnd, and-le-l}
 use lib.Count.{ones, ones-le}
 use lib.Dec.{lit<}
 use lib.ListN.{getD, set}
@@ -52,3 +53,6 @@ ones-is rows i r e = e
 
 pub ones-small : (x : ℕ) → Fits w32 x → ones x ≤ 32
 ones-small x h = ones-le 32 x (h .fits)
+
+pub part-within : (mask used : ℕ) → bitAnd mask used ≤ mask
+part-within mask used = and-le-l mask used

@@ -1,6 +1,7 @@
 // Words of bits.
 ghost use mathlib.Core.Path.{_≡_};
-ghost use Prim.Native.Nat.{_*_, _≤_, _<_, _^_};
+ghost use Prim.Native.Nat.{_-_, _*_, _≤_, _<_, _^_};
+ghost use lib.Bits.{bitAnd};
 ghost use lib.Count.{trailingZeros};
 ghost use Rattle.laws.specs.Bit.{withBit};
 ghost use Rattle.rows.specs.Standing.{mixed};
@@ -42,6 +43,13 @@ pub fn lowest(w: u32) -> u32
     ensures { λ r. ⌜ r ≡ trailingZeros 32 w ⌝ }
 {
     u32::trailing_zeros(w)
+}
+
+// A word without the bits of another.
+pub fn without(w: u32, other: u32) -> u32
+    ensures { λ r. ⌜ r ≡ w - bitAnd w other ⌝ }
+{
+    w - (w & other)
 }
 
 // The bit b at place k.

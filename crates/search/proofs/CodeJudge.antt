@@ -28,16 +28,18 @@ use Rattle.pairs.specs.Pairs.{Pair, pair, pairs, pairCount}
 use Rattle.graph.specs.Counts.{entryAt}
 use Rattle.graph.proofs.Formed.{formed}
 use Rattle.arrangements.proofs.Permits.{permitted-tested}
-use Rattle.search.specs.declared.Verdict.the-variants.{Smaller, Nothing, Cut, Refused}
-use Rattle.search.specs.declared.explore.Explored.{Explored}
-use Rattle.search.specs.declared.Judged.{Judged}
-use Rattle.search.specs.Judging.{samePair, image, walkAll, clauseOf, judged, judgedOn, found, padded, certificateOf}
-use Rattle.search.specs.Answer.{without, standingPair, smaller, answerFor, judgeAnswer, atStart, judgeBuffer}
-use Rattle.search.specs.Code.{codeOf, turnAt, firstPair, Within, foundBy, graphIn}
-use Rattle.search.proofs.Arrangements.{padded-permitted}
-use Rattle.search.proofs.TurnCodes.{turn-codes}
-use Rattle.search.proofs.Judgements.{of-won}
-use Rattle.search.proofs.Certificates.{certificate-walk}
+use Rattle.judging.specs.declared.Verdict.the-variants.{Smaller, Nothing, Cut, Refused}
+use Rattle.exploring.specs.declared.explore.Explored.{Explored}
+use Rattle.judging.specs.declared.Judged.{Judged}
+use Rattle.judging.specs.Judging.{samePair, image, walkAll, clauseOf, judged, judgedOn, found, padded, certificateOf}
+use Rattle.judging.specs.Answer.{without, standingPair, smaller, answerFor, judgeAnswer, atStart, judgeBuffer}
+use Rattle.turns.specs.Turns.{codeOf, turnAt, firstPair, Within}
+use Rattle.exploring.specs.Found.{foundBy}
+use Rattle.graph.specs.Graph.{graphOf}
+use Rattle.judging.proofs.Arrangements.{padded-permitted}
+use Rattle.turns.proofs.TurnCodes.{turn-codes}
+use Rattle.judging.proofs.Judgements.{of-won}
+use Rattle.judging.proofs.Certificates.{certificate-walk}
 
 pub product-fits : (n : ℕ) → n ≤ 32 → n * (n - 1) < 2 ^ 32
 product-fits n h = lt-of-le-of-lt (mul-le-mul {n₁ = n} {m₁ = n - 1} {n₂ = 32} {m₂ = 32} h (omega arith)) (lit< tt)
@@ -61,15 +63,15 @@ first-won v img t (j ∷ ks) k h e =
     ap (λ (c : ℕ). pick (eqb c 0) (firstPair t ks) j) (sym (each-first (λ i. codeOf (turn samePair v img i) ≡ t i) h))
     ∙ by-turn (turn samePair v img j) j (walk samePair v img ks) k (firstPair t ks) e (first-won v img t ks k (each-rest (λ i. codeOf (turn samePair v img i) ≡ t i) h))
 
-pub taken-long : (n : ℕ) (es us : List ℕ) (starts : ℕ) → wellFormed (graphIn n es us starts) ≡ true → (start : List ℕ) (depth : ℕ) → length start ≡ 32 → depth ≤ n → length (take depth start) ≡ depth
-taken-long n es us starts w start depth l d = length-take-le depth start (omega (arith, formed (graphIn n es us starts) w .order-high))
+pub taken-long : (n : ℕ) (es us : List ℕ) (starts : ℕ) → wellFormed (graphOf n es us starts) ≡ true → (start : List ℕ) (depth : ℕ) → length start ≡ 32 → depth ≤ n → length (take depth start) ≡ depth
+taken-long n es us starts w start depth l d = length-take-le depth start (omega (arith, formed (graphOf n es us starts) w .order-high))
 
-module _ (n : ℕ) (es us : List ℕ) (starts : ℕ) (w : wellFormed (graphIn n es us starts) ≡ true) (start : List ℕ) (depth : ℕ) (l : length start ≡ 32) (d : depth ≤ n) (b : Beginning n (blockOf starts) (take depth start))
+module _ (n : ℕ) (es us : List ℕ) (starts : ℕ) (w : wellFormed (graphOf n es us starts) ≡ true) (start : List ℕ) (depth : ℕ) (l : length start ≡ 32) (d : depth ≤ n) (b : Beginning n (blockOf starts) (take depth start))
     (path : List ℕ) (p : path ≡ padded (completed n (blockOf starts) (n - depth) (take depth start))) where
-  is-formed : WellFormed (graphIn n es us starts)
-  is-formed = formed (graphIn n es us starts) w
+  is-formed : WellFormed (graphOf n es us starts)
+  is-formed = formed (graphOf n es us starts) w
 
-  is-certificate : path ≡ certificateOf (graphIn n es us starts) (take depth start)
+  is-certificate : path ≡ certificateOf (graphOf n es us starts) (take depth start)
   unfolding certificateOf
   is-certificate = p ∙ ap (λ (m : ℕ). padded (completed n (blockOf starts) (n - m) (take depth start))) (sym (taken-long n es us starts w start depth l d))
 
@@ -87,30 +89,30 @@ module _ (n : ℕ) (es us : List ℕ) (starts : ℕ) (w : wellFormed (graphIn n 
       let r = is-permitted .reordering in
       record { low = r .low; high = λ i a c. omega (arith, r .high i a c, is-formed .order-high) }
 
-  module _ (j : judged (graphIn n es us starts) (take depth start) ≡ Search.won) (row column : ℕ) (s : pair row column ≡ firstPair (turnAt es us path) (pairs n)) where
-    won-walk : (k : Pair) × (walkAll (graphIn n es us starts) path ≡ won k)
+  module _ (j : judged (graphOf n es us starts) (take depth start) ≡ Search.won) (row column : ℕ) (s : pair row column ≡ firstPair (turnAt es us path) (pairs n)) where
+    won-walk : (k : Pair) × (walkAll (graphOf n es us starts) path ≡ won k)
     unfolding judged
     won-walk =
-        let r = of-won (walk samePair (entryAt (graphIn n es us starts)) (image (take depth start)) (judgedOn n (length (take depth start)))) j in
-        (r .0, rw is-certificate (certificate-walk (graphIn n es us starts) is-formed (take depth start) (r .0) b (r .1)))
+        let r = of-won (walk samePair (entryAt (graphOf n es us starts)) (image (take depth start)) (judgedOn n (length (take depth start)))) j in
+        (r .0, rw is-certificate (certificate-walk (graphOf n es us starts) is-formed (take depth start) (r .0) b (r .1)))
 
-    pub stands-there : walkAll (graphIn n es us starts) path ≡ won (pair row column)
+    pub stands-there : walkAll (graphOf n es us starts) path ≡ won (pair row column)
     unfolding walkAll
     stands-there =
         let r = won-walk in
-        r .1 ∙ ap won (sym (first-won (entryAt (graphIn n es us starts)) (image path) (turnAt es us path) (pairs n) (r .0) (λ k m. turn-codes (graphIn n es us starts) is-formed path k) (r .1)) ∙ sym s)
+        r .1 ∙ ap won (sym (first-won (entryAt (graphOf n es us starts)) (image path) (turnAt es us path) (pairs n) (r .0) (λ k m. turn-codes (graphOf n es us starts) is-formed path k) (r .1)) ∙ sym s)
 
-    pub smaller-is : (steps count : ℕ) → count ≡ length (clauseOf (graphIn n es us starts) path)
-        → _≡_ {A = Judged} (record { verdict = Smaller row column steps; arrangement = path; literals = count }) (smaller (graphIn n es us starts) (certificateOf (graphIn n es us starts) (take depth start)) steps)
+    pub smaller-is : (steps count : ℕ) → count ≡ length (clauseOf (graphOf n es us starts) path)
+        → _≡_ {A = Judged} (record { verdict = Smaller row column steps; arrangement = path; literals = count }) (smaller (graphOf n es us starts) (certificateOf (graphOf n es us starts) (take depth start)) steps)
     unfolding smaller standingPair
     smaller-is steps count e = rw (← is-certificate, stands-there, e)
 
-  pub clause-is : (before after : List ℤ) → after ≡ clauseOf (graphIn n es us starts) path ++ drop (length (clauseOf (graphIn n es us starts) path)) before
-      → after ≡ clauseOf (graphIn n es us starts) (certificateOf (graphIn n es us starts) (take depth start)) ++ drop (length (clauseOf (graphIn n es us starts) (certificateOf (graphIn n es us starts) (take depth start)))) before
-  clause-is before after e = e ∙ ap (λ (q : List ℕ). clauseOf (graphIn n es us starts) q ++ drop (length (clauseOf (graphIn n es us starts) q)) before) is-certificate
+  pub clause-is : (before after : List ℤ) → after ≡ clauseOf (graphOf n es us starts) path ++ drop (length (clauseOf (graphOf n es us starts) path)) before
+      → after ≡ clauseOf (graphOf n es us starts) (certificateOf (graphOf n es us starts) (take depth start)) ++ drop (length (clauseOf (graphOf n es us starts) (certificateOf (graphOf n es us starts) (take depth start)))) before
+  clause-is before after e = e ∙ ap (λ (q : List ℕ). clauseOf (graphOf n es us starts) q ++ drop (length (clauseOf (graphOf n es us starts) q)) before) is-certificate
 
-pub order-least : (n : ℕ) (es us : List ℕ) (starts : ℕ) → wellFormed (graphIn n es us starts) ≡ true → 1 ≤ n
-order-least n es us starts w = formed (graphIn n es us starts) w .order-low
+pub order-least : (n : ℕ) (es us : List ℕ) (starts : ℕ) → wellFormed (graphOf n es us starts) ≡ true → 1 ≤ n
+order-least n es us starts w = formed (graphOf n es us starts) w .order-low
 
 -- ---- from the search to the answer
 

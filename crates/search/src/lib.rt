@@ -10,44 +10,19 @@ ghost use Rattle.beginnings.specs.Search.{won};
 ghost use Rattle.rows.specs.Rows.{blockOf, placed};
 ghost use Rattle.pairs.specs.Pairs.{pairCount};
 ghost use Rattle.graph.specs.WellFormed.{wellFormed};
-ghost use Rattle.search.specs.Judging.{judged, found, clauseOf, certificateOf};
-ghost use Rattle.search.specs.Code.{graphIn};
-ghost use Rattle.search.specs.Masks.{blockMask};
-ghost use Rattle.search.specs.Answer.{without, smaller, answerFor, atStart, judgeAnswer, judgeBuffer};
-
-mod certificate;
-mod clause;
-mod explore;
-mod masks;
-mod stops;
-mod turns;
-
-use certificate::complete;
-use certificate::standing;
-use clause::write_clause;
-use explore::Explored;
-use explore::explore;
+ghost use Rattle.judging.specs.Judging.{judged, found, clauseOf, certificateOf};
+ghost use Rattle.graph.specs.Graph.{graphOf};
+ghost use Rattle.exploring.specs.Masks.{blockMask};
+ghost use Rattle.judging.specs.Answer.{without, smaller, answerFor, atStart, judgeAnswer, judgeBuffer};
+use clause::certificate::complete;
+use clause::certificate::standing;
+use clause::written::write_clause;
+use exploring::explore::Explored;
+use exploring::explore::explore;
+use exploring::masks::block_masks;
 use graph::Graph;
-use masks::block_masks;
-
-// How a judgement ended. Steps are the beginnings tried.
-pub enum Verdict {
-    // Some permitted renumbering is smaller: the standing pair of the first certificate.
-    Smaller { row: u32, column: u32, steps: u32 },
-    // No permitted arrangement has a standing pair.
-    Nothing { steps: u32 },
-    // The budget was used up first.
-    Cut { steps: u32 },
-    // The graph or the buffer is refused.
-    Refused { number: u32, place: usize },
-}
-
-// A verdict, with the first certificate (zeros except for Smaller) and how many literals of its clause were written.
-pub struct Judged {
-    pub verdict: Verdict,
-    pub arrangement: [u8; 32],
-    pub literals: usize,
-}
+use judging::Judged;
+use judging::Verdict;
 
 // A verdict with nothing beside it.
 fn bare(verdict: Verdict) -> Judged
@@ -80,8 +55,8 @@ fn certify<'a, 'b>(
     end: Explored,
     literals: &'b mut [i32],
 ) -> Judged
-    requires { ⌜ (wellFormed (graphIn n (now edges) (now unknowns) starts) ≡ true) × (pairCount n ≤ length (now literals)) × (now blocks ≡ placed (blockMask (blockOf starts) n) n) × (end .depth ≤ n) × Beginning n (blockOf starts) (take (end .depth) start) × (judged (graphIn n (now edges) (now unknowns) starts) (take (end .depth) start) ≡ won) × (drop n start ≡ replicate (32 - n) 0) ⌝ }
-    ensures { λ r. ⌜ (r ≡ smaller (graphIn n (now (edges .entry)) (now (unknowns .entry)) starts) (certificateOf (graphIn n (now (edges .entry)) (now (unknowns .entry)) starts) (take (end .depth) start)) (end .steps)) × (now (literals .exit) ≡ clauseOf (graphIn n (now (edges .entry)) (now (unknowns .entry)) starts) (certificateOf (graphIn n (now (edges .entry)) (now (unknowns .entry)) starts) (take (end .depth) start)) ++ drop (length (clauseOf (graphIn n (now (edges .entry)) (now (unknowns .entry)) starts) (certificateOf (graphIn n (now (edges .entry)) (now (unknowns .entry)) starts) (take (end .depth) start)))) (now (literals .entry))) ⌝ }
+    requires { ⌜ (wellFormed (graphOf n (now edges) (now unknowns) starts) ≡ true) × (pairCount n ≤ length (now literals)) × (now blocks ≡ placed (blockMask (blockOf starts) n) n) × (end .depth ≤ n) × Beginning n (blockOf starts) (take (end .depth) start) × (judged (graphOf n (now edges) (now unknowns) starts) (take (end .depth) start) ≡ won) × (drop n start ≡ replicate (32 - n) 0) ⌝ }
+    ensures { λ r. ⌜ (r ≡ smaller (graphOf n (now (edges .entry)) (now (unknowns .entry)) starts) (certificateOf (graphOf n (now (edges .entry)) (now (unknowns .entry)) starts) (take (end .depth) start)) (end .steps)) × (now (literals .exit) ≡ clauseOf (graphOf n (now (edges .entry)) (now (unknowns .entry)) starts) (certificateOf (graphOf n (now (edges .entry)) (now (unknowns .entry)) starts) (take (end .depth) start)) ++ drop (length (clauseOf (graphOf n (now (edges .entry)) (now (unknowns .entry)) starts) (certificateOf (graphOf n (now (edges .entry)) (now (unknowns .entry)) starts) (take (end .depth) start)))) (now (literals .entry))) ⌝ }
 {
     let steps = end.steps;
     let mut path = start;
@@ -106,8 +81,8 @@ fn judge_formed<'a, 'b>(
     budget: u32,
     literals: &'b mut [i32],
 ) -> Judged
-    requires { ⌜ (wellFormed (graphIn n (now edges) (now unknowns) starts) ≡ true) × (pairCount n ≤ length (now literals)) ⌝ }
-    ensures { λ r. ⌜ (r ≡ answerFor (graphIn n (now (edges .entry)) (now (unknowns .entry)) starts) budget (found (graphIn n (now (edges .entry)) (now (unknowns .entry)) starts) budget)) × (now (literals .exit) ≡ atStart (r .verdict) (clauseOf (graphIn n (now (edges .entry)) (now (unknowns .entry)) starts) (r .arrangement)) (now (literals .entry))) ⌝ }
+    requires { ⌜ (wellFormed (graphOf n (now edges) (now unknowns) starts) ≡ true) × (pairCount n ≤ length (now literals)) ⌝ }
+    ensures { λ r. ⌜ (r ≡ answerFor (graphOf n (now (edges .entry)) (now (unknowns .entry)) starts) budget (found (graphOf n (now (edges .entry)) (now (unknowns .entry)) starts) budget)) × (now (literals .exit) ≡ atStart (r .verdict) (clauseOf (graphOf n (now (edges .entry)) (now (unknowns .entry)) starts) (r .arrangement)) (now (literals .entry))) ⌝ }
 {
     let blocks = block_masks(n, starts);
     let mut path = [0u8; 32];

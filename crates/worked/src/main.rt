@@ -1,7 +1,7 @@
 // Runs the worked graphs of the rules, and each refusal of a library, and writes what came of it.
 use graph::Graph;
+use judging::Judged;
 use libc::STDOUT_FILENO;
-use search::Judged;
 use show::byte;
 use show::number;
 use show::text;

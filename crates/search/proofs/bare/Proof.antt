@@ -1,5 +1,5 @@
 use mathlib.Core.Path.{refl}
-use Rattle.search.specs.Answer.{without}
+use Rattle.judging.specs.Answer.{without}
 use Rattle.search.proofs.bare.Statement.{statement}
 use Rattle.search.proofs.bare.Tie as tie
 

@@ -1,5 +1,5 @@
 use borrow.Author.Needs.{needs}
-use Rattle.search.proofs.CodeSearch.{order-bounded}
+use Rattle.exploring.proofs.CodeSearch.{order-bounded}
 use Rattle.search.proofs.CodeJudge.{taken-long, certificate-tested, certificate-within, stands-there, smaller-is, clause-is, order-least}
 use Rattle.search.proofs.certify.Statement.{statement}
 use Rattle.search.proofs.certify.Tie as tie

@@ -1,5 +1,5 @@
 use borrow.Author.Needs.{needs}
-use Rattle.search.proofs.CodeSearch.{order-bounded}
+use Rattle.exploring.proofs.CodeSearch.{order-bounded}
 use Rattle.search.proofs.CodeJudge.{still-zeros, found-begins, found-won, answers-none, answers-cut, answers-first, none-buffer, cut-buffer, smaller-buffer}
 use Rattle.search.proofs.judge_formed.Statement.{statement}
 use Rattle.search.proofs.judge_formed.Tie as tie

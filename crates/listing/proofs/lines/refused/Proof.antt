@@ -1,5 +1,5 @@
 use mathlib.Core.Path.{refl}
-use Rattle.search.specs.Answer.{without}
+use Rattle.judging.specs.Answer.{without}
 use Rattle.listing.proofs.lines.refused.Statement.{statement}
 use Rattle.listing.proofs.lines.refused.Tie as tie
 

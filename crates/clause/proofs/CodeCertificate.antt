@@ -1,0 +1,130 @@
+-- What the code does for a certificate: the mask of a path, its completion, and the pair at which it stands.
+use Prim.Native.Nat.{ℕ, suc, _+_, _-_, _^_, _≤_, _<_}
+use native.Mathlib.Nat.{lt-of-lt-of-le}
+use native.Mathlib.Omega.{arith}
+use mathlib.Core.Path.{_≡_, refl, sym, ap, ap₂, subst, _∙_}
+use mathlib.Core.List.{List, [], _∷_, _++_}
+use lib.ListN.{length, getD, take, drop, length-take, take-append-drop}
+use lib.Pow.{pow-mono}
+use lib.Seq.{take-suc, take-take, getD-take}
+use borrow.Author.Tests.{eq-eqb, ne-eqb}
+use Rattle.laws.specs.Test.{pick}
+use Rattle.beginnings.specs.Beginning.{Beginning}
+use Rattle.beginnings.proofs.Follows.{Follows, follows-start, beginning-follows}
+use Rattle.rows.specs.Rows.{blockOf}
+use Rattle.arrangements.specs.Arrangement.{at}
+use Rattle.pairs.specs.Pairs.{Pair, pair, alongRow, fromRow, pairs}
+use Rattle.pairs.proofs.PairLaws.{fromRow-split}
+use Rattle.exploring.specs.Masks.{usedMask}
+use Rattle.turns.specs.Turns.{firstPair, Within}
+use Rattle.exploring.proofs.MaskLaws.{used-more, used-below}
+
+-- ---- the mask of a path
+
+module _ (n starts : ℕ) (path : List ℕ) (depth : ℕ) (b : Beginning n (blockOf starts) (take depth path)) (long : length (take depth path) ≡ depth) where
+  module _ (i : ℕ) (h : i < depth) where
+    place : at (take depth path) (suc i) ≡ getD path i 0
+    place = let e : suc i - 1 ≡ i = omega arith in rw e (getD-take depth path i 0 h)
+
+    pub path-low : 1 ≤ getD path i 0
+    path-low = rw place at (b .low (suc i) (omega arith) (omega arith))
+
+    pub path-high : n ≤ 32 → getD path i 0 ≤ 32
+    path-high k = omega (arith, rw place at (b .high (suc i) (omega arith) (omega arith)))
+
+    in-path : i < length path
+    in-path = omega (arith, length-take depth path)
+
+    module _ (used w : ℕ) (e : used ≡ usedMask (take i path)) (q : w ≡ 2 ^ (getD path i 0 - 1)) where
+      pub used-longer : used + w ≡ usedMask (take (i + 1) path)
+      used-longer =
+          let k : i + 1 ≡ suc i = omega arith in
+          ap₂ _+_ e q ∙ sym (used-more (take i path) (getD path i 0)) ∙ ap usedMask (sym (take-suc path i 0 in-path) ∙ ap (λ (m : ℕ). take m path) (sym k))
+
+      pub used-small : n ≤ 32 → used + w < 2 ^ 32
+      used-small k =
+          rw used-longer
+          (lt-of-lt-of-le
+          (used-below n (blockOf starts) (take (i + 1) path)
+          (follows-start n (blockOf starts) [] (take (i + 1) path) (drop (i + 1) (take depth path))
+          (subst (Follows n (blockOf starts) [])
+          (sym (take-append-drop (i + 1) (take depth path)) ∙ ap (λ (x : List ℕ). x ++ drop (i + 1) (take depth path)) (take-take (i + 1) depth path (omega arith)))
+          (beginning-follows n (blockOf starts) (take depth path) b))))
+          (pow-mono {j = 32} k))
+
+pub used-starts : (path : List ℕ) → 0 ≡ usedMask (take 0 path)
+unfolding usedMask
+used-starts path = refl
+
+pub used-done : (path : List ℕ) (i depth used : ℕ) → used ≡ usedMask (take i path) → i ≤ depth → depth ≤ i → used ≡ usedMask (take depth path)
+used-done path i depth used e a c = let q : i ≡ depth = omega arith in e ∙ ap (λ (m : ℕ). usedMask (take m path)) q
+
+-- ---- the pairs from (i, j) on
+
+-- in row order
+unfoldable pub fromPair : ℕ → ℕ → ℕ → List Pair
+fromPair n i j = alongRow i j (n + 1 - j) ++ fromRow (i + 1) (n - (i + 1))
+
+-- all of them, from (1, 2)
+pub from-first : (n : ℕ) → 1 ≤ n → fromPair n 1 2 ≡ pairs n
+unfolding fromPair pairs
+from-first n l =
+    let a : n + 1 - 2 ≡ n - 1 = omega arith in
+    let c : n - 2 ≡ n - 1 - 1 = omega arith in
+    rw (a, c) (sym (fromRow-split 1 (n - 1)))
+
+-- a pair, then the next one of its row or the first of the next row
+pub from-here : (n i j : ℕ) → j ≤ n → fromPair n i j ≡ pair i j ∷ fromPair n i (j + 1)
+unfolding fromPair alongRow
+from-here n i j h =
+    let a : n + 1 - j ≡ suc (n + 1 - (j + 1)) = omega arith in
+    let e : j + 1 ≡ suc j = omega arith in
+    rw (a, e)
+
+pub from-down : (n i : ℕ) → i < n → fromPair n i (n + 1) ≡ fromPair n (i + 1) (i + 1 + 1)
+unfolding fromPair alongRow
+from-down n i h =
+    let a : n + 1 - (n + 1) ≡ 0 = omega arith in
+    let c : n + 1 - (i + 1 + 1) ≡ n - (i + 1) = omega arith in
+    let d : i + 1 + 1 ≡ suc (i + 1) = omega arith in
+    let f : n - suc (i + 1) ≡ n - (i + 1) - 1 = omega arith in
+    rw (a, c, d, f) (fromRow-split (i + 1) (n - (i + 1)))
+
+pub from-last : (n j : ℕ) → n < j → fromPair n n j ≡ []
+unfolding fromPair alongRow fromRow
+from-last n j h =
+    let a : n + 1 - j ≡ 0 = omega arith in
+    let c : n - (n + 1) ≡ 0 = omega arith in
+    rw (a, c)
+
+-- ---- the first pair that does not go on
+
+pub column-low : (n i j : ℕ) (p : List ℕ) → Within n p → i < n → i < j → j ≤ n + (i + 1 - n) → 1 ≤ at p j
+column-low n i j p w h k l = w .low j (omega arith) (omega arith)
+
+pub column-high : (n i j : ℕ) (p : List ℕ) → Within n p → i < n → i < j → j ≤ n + (i + 1 - n) → at p j ≤ 32
+column-high n i j p w h k l = w .high j (omega arith) (omega arith)
+
+module _ (t : Pair → ℕ) (n i j : ℕ) (whole : Pair) (left : firstPair t (fromPair n i j) ≡ whole) where
+  onward : (c : ℕ) → j ≤ n → c ≡ t (pair i j) → c ≡ 0 → firstPair t (fromPair n i (j + 1)) ≡ whole
+  unfolding firstPair pick
+  onward c h e z = (rw (from-here n i j h, eq-eqb (t (pair i j)) 0 (sym e ∙ z)) at left)
+
+  pub first-along : (c : ℕ) → j < n → c ≡ t (pair i j) → c ≡ 0 → firstPair t (fromPair n i (j + 1)) ≡ whole
+  first-along c h e z = onward c (omega arith) e z
+
+  pub first-down : (c : ℕ) → i < n → j ≤ n + (i + 1 - n) → n ≤ j → c ≡ t (pair i j) → c ≡ 0 → firstPair t (fromPair n (i + 1) (i + 1 + 1)) ≡ whole
+  first-down c h k l e z =
+      let q : j ≡ n = omega arith in
+      ap (firstPair t) (sym (from-down n i h)) ∙ ap (λ (m : ℕ). firstPair t (fromPair n i (m + 1))) (sym q) ∙ onward c (omega arith) e z
+
+  pub first-here : (c : ℕ) → i < n → j ≤ n + (i + 1 - n) → c ≡ t (pair i j) → (c ≡ 0 → ⊥) → pair i j ≡ whole
+  unfolding firstPair pick
+  first-here c h k e z = rw (from-here n i j (omega arith), ne-eqb (t (pair i j)) 0 (λ q. z (e ∙ q))) at left
+
+  pub first-none : i ≤ n → n ≤ i → i < j → pair 0 0 ≡ whole
+  unfolding firstPair
+  first-none h k l = let q : i ≡ n = omega arith in rw (ap (λ (m : ℕ). fromPair n m j) q ∙ from-last n j (omega arith)) at left
+
+pub first-starts : (t : Pair → ℕ) (n : ℕ) → 1 ≤ n → firstPair t (fromPair n 1 2) ≡ firstPair t (pairs n)
+first-starts t n l = ap (firstPair t) (from-first n l)

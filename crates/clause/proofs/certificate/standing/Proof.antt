@@ -1,0 +1,66 @@
+use borrow.Author.Needs.{needs}
+use Rattle.clause.proofs.CodeCertificate.{column-low, column-high, fromPair, first-starts, first-along, first-down, first-here, first-none}
+use Prim.Native.Nat.{_+_, _-_, _*_, _≤_, _<_}
+use mathlib.Core.Path.{_≡_}
+use Rattle.pairs.specs.Pairs.{pairs}
+use Rattle.turns.specs.Turns.{turnAt, firstPair}
+use Rattle.turns.proofs.CodeTurns.{within-low, within-high}
+use Rattle.clause.proofs.certificate.standing.Statement.{statement}
+use Rattle.clause.proofs.certificate.standing.Tie as tie
+
+abbrev Inv-loop : tie.InvT-loop
+Inv-loop edges unknowns path n i₀ j₀ i j = (1 ≤ i) × (i ≤ n) × (i < j) × (j ≤ n + (i + 1 - n)) × (firstPair (turnAt edges unknowns path) (fromPair n i j) ≡ firstPair (turnAt edges unknowns path) (pairs n))
+
+abbrev μ-loop : tie.MeasureT-loop
+μ-loop edges unknowns path n i₀ j₀ i j = (n - i) * 64 + (64 - j)
+
+loop-holds : tie.Need-loop-holds Inv-loop μ-loop
+loop-holds c = (search needs, search needs, search needs, search needs, search first-starts)
+
+pair-turn-requires : tie.Need-pair-turn-requires Inv-loop μ-loop
+pair-turn-requires c κs = (search needs, search needs, search needs, search needs, search within-low, search within-high, search column-low, search column-high)
+
+add-j : tie.Need-add-j Inv-loop μ-loop
+add-j c = search needs
+
+loop-less : tie.Need-loop-less Inv-loop μ-loop
+loop-less c = search needs
+
+loop-again : tie.Need-loop-again Inv-loop μ-loop
+loop-again c = (search needs, search needs, search needs, search needs, first-along _ _ _ _ _ (c .before .before .before .before .loop .inv .4) _ (c .if2 .taken) (c .before .before .pair-turn .ensures) (c .before .if1 .taken))
+
+add-i : tie.Need-add-i Inv-loop μ-loop
+add-i c = search needs
+
+add-j-2 : tie.Need-add-j-2 Inv-loop μ-loop
+add-j-2 c = search needs
+
+loop-less-2 : tie.Need-loop-less-2 Inv-loop μ-loop
+loop-less-2 c = search needs
+
+loop-again-2 : tie.Need-loop-again-2 Inv-loop μ-loop
+loop-again-2 c = (search needs, search needs, search needs, search needs, search first-down)
+
+returns : tie.Need-returns Inv-loop μ-loop
+returns c = search (first-here, needs)
+
+returns-2 : tie.Need-returns-2 Inv-loop μ-loop
+returns-2 c = search (first-none, needs)
+
+pub standing-spec : {M : Type 1} → statement M
+standing-spec =
+    tie.close
+    (tie.spec
+    Inv-loop
+    μ-loop
+    loop-holds
+    pair-turn-requires
+    add-j
+    loop-less
+    loop-again
+    add-i
+    add-j-2
+    loop-less-2
+    loop-again-2
+    returns
+    returns-2)

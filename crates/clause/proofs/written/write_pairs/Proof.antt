@@ -1,0 +1,81 @@
+use borrow.Author.Needs.{needs}
+use Prim.Native.Nat.{_-_}
+use Rattle.pairs.specs.Pairs.{pair}
+use Rattle.clause.specs.Clauses.{kindAt}
+use Rattle.clause.proofs.ClauseMasks.{before-within, row-within, column-within, first-before, places-tested, source-known}
+use Rattle.clause.proofs.Writing.{Rows, rows-begin, rows-long, rows-done, few-before, room-for, rows-turn}
+use Rattle.clause.proofs.written.write_pairs.Statement.{statement}
+use Rattle.clause.proofs.written.write_pairs.Tie as tie
+
+abbrev Inv-loop : tie.InvT-loop
+Inv-loop edges unknowns path places n row column literals₀ before at up i₀ count₀ literals i count = Rows (kindAt edges unknowns places (pair row column)) n literals₀ literals i count
+
+abbrev μ-loop : tie.MeasureT-loop
+μ-loop edges unknowns path places n row column literals₀ before at up i₀ count₀ literals i count = n - i
+
+sub-first-places : tie.Need-sub-first-places Inv-loop μ-loop
+sub-first-places c = search needs
+
+first-places-requires : tie.Need-first-places-requires Inv-loop μ-loop
+first-places-requires c κs = (search needs, search (before-within, needs))
+
+first-places-requires-2 : tie.Need-first-places-requires-2 Inv-loop μ-loop
+first-places-requires-2 c κs = (search needs, search (row-within, needs))
+
+first-places-requires-3 : tie.Need-first-places-requires-3 Inv-loop μ-loop
+first-places-requires-3 c κs = (search needs, search (column-within, needs))
+
+loop-holds : tie.Need-loop-holds Inv-loop μ-loop
+loop-holds c = search (rows-begin, needs)
+
+vertex-of-requires : tie.Need-vertex-of-requires Inv-loop μ-loop
+vertex-of-requires c κs = (search needs, search (places-tested, needs), search needs, search needs)
+
+firsts-requires : tie.Need-firsts-requires Inv-loop μ-loop
+firsts-requires c κs = search needs
+
+sources-requires : tie.Need-sources-requires Inv-loop μ-loop
+sources-requires c κs = (search needs, search needs, search needs, search (first-before, needs), search (first-before, needs), search (first-before, needs))
+
+columns-of-requires : tie.Need-columns-of-requires Inv-loop μ-loop
+columns-of-requires c κs = (search needs, search needs, search needs, search needs, search (source-known, needs))
+
+write-row-requires : tie.Need-write-row-requires Inv-loop μ-loop
+write-row-requires c κs = (search needs, search (places-tested, needs), search needs, search needs, search (few-before, needs), search (room-for, needs), search needs, search needs)
+
+add-i : tie.Need-add-i Inv-loop μ-loop
+add-i c = search needs
+
+loop-less : tie.Need-loop-less Inv-loop μ-loop
+loop-less c = search needs
+
+loop-again : tie.Need-loop-again Inv-loop μ-loop
+loop-again c = search rows-turn
+
+same-length : tie.Need-same-length Inv-loop μ-loop
+same-length c = search (rows-long, needs)
+
+returns : tie.Need-returns Inv-loop μ-loop
+returns c = search (rows-done, needs)
+
+pub write-pairs-spec : {M : Type 1} → statement M
+write-pairs-spec =
+    tie.close
+    (tie.spec
+    Inv-loop
+    μ-loop
+    sub-first-places
+    first-places-requires
+    first-places-requires-2
+    first-places-requires-3
+    loop-holds
+    vertex-of-requires
+    firsts-requires
+    sources-requires
+    columns-of-requires
+    write-row-requires
+    add-i
+    loop-less
+    loop-again
+    same-length
+    returns)

@@ -1,0 +1,84 @@
+// The first certificate: the won beginning completed, and its standing pair.
+ghost use mathlib.Core.Path.{_≡_};
+ghost use Prim.Native.Nat.{_+_, _-_, _≤_, _<_};
+ghost use lib.ListN.{length, take, drop, replicate};
+ghost use Rattle.beginnings.specs.Beginning.{Beginning};
+ghost use Rattle.beginnings.specs.Certificate.{completed};
+ghost use Rattle.rows.specs.Rows.{blockOf, placed};
+ghost use Rattle.pairs.specs.Pairs.{pair, pairs};
+ghost use Rattle.judging.specs.Judging.{padded};
+ghost use Rattle.exploring.specs.Masks.{usedMask, blockMask};
+ghost use Rattle.turns.specs.Turns.{turnAt, firstPair, Within};
+use rows::words::lowest;
+use rows::words::power;
+use rows::words::without;
+use turns::path::stored;
+use turns::path::weight_of;
+use turns::walked::pair_turn;
+
+// The vertices of the path's first places as a mask.
+fn used_mask(path: &[u8; 32], n: u32, starts: u32, depth: u32) -> u32
+    requires { ⌜ (length (now path) ≡ 32) × (n ≤ 32) × Beginning n (blockOf starts) (take depth (now path)) × (length (take depth (now path)) ≡ depth) ⌝ }
+    ensures { λ r. ⌜ r ≡ usedMask (take depth (now (path .entry))) ⌝ }
+{
+    let mut used = 0u32;
+    let mut i = 0usize;
+    while i < depth as usize {
+        used += weight_of(path[i]);
+        i += 1;
+    }
+    used
+}
+
+// Fills the places after the first `depth` up to n, each with the lowest unused vertex of its block.
+pub fn complete<'a, 'b>(
+    n: u32,
+    starts: u32,
+    blocks: &'a [u32; 32],
+    depth: u32,
+    path: &'b mut [u8; 32],
+)
+    requires { ⌜ (length (now path) ≡ 32) × (n ≤ 32) × (length (take depth (now path)) ≡ depth) × Beginning n (blockOf starts) (take depth (now path)) × (drop n (now path) ≡ replicate (32 - n) 0) × (now blocks ≡ placed (blockMask (blockOf starts) n) n) ⌝ }
+    ensures { λ r. ⌜ now (path .exit) ≡ padded (completed n (blockOf starts) (n - depth) (take depth (now (path .entry)))) ⌝ }
+{
+    let mut used = used_mask(path, n, starts, depth);
+    let mut d = depth as usize;
+    while d < n as usize {
+        let v = lowest(without(blocks[d], used));
+        path[d] = stored(v);
+        used += power(v);
+        d += 1;
+    }
+}
+
+pub struct Spot {
+    pub row: u32,
+    pub column: u32,
+}
+
+// The first pair that does not go on, or (0, 0).
+pub fn standing<'a>(
+    edges: &'a [u32; 32],
+    unknowns: &'a [u32; 32],
+    path: &'a [u8; 32],
+    n: u32,
+) -> Spot
+    requires { ⌜ (1 ≤ n) × (n ≤ 32) × Within n (now path) ⌝ }
+    ensures { λ r. ⌜ pair (r .row) (r .column) ≡ firstPair (turnAt (now (edges .entry)) (now (unknowns .entry)) (now (path .entry))) (pairs n) ⌝ }
+{
+    let mut i = 1;
+    let mut j = 2;
+    while i < n {
+        if pair_turn(edges, unknowns, path, i, j) == 0 {
+            if j < n {
+                j += 1;
+            } else {
+                i += 1;
+                j = i + 1;
+            }
+        } else {
+            return Spot { row: i, column: j };
+        }
+    }
+    Spot { row: 0, column: 0 }
+}

@@ -1,0 +1,22 @@
+use borrow.Author.Needs.{needs}
+use Rattle.exploring.proofs.CodeStops.{own-first, own-later, own-none}
+use Rattle.exploring.proofs.stops.own_mask.Statement.{statement}
+use Rattle.exploring.proofs.stops.own_mask.Tie as tie
+
+sub-power : tie.Need-sub-power
+sub-power c = search needs
+
+power-requires : tie.Need-power-requires
+power-requires c κs = search needs
+
+returns : tie.Need-returns
+returns c = search (own-first, needs)
+
+returns-2 : tie.Need-returns-2
+returns-2 c = search (own-later, needs)
+
+returns-3 : tie.Need-returns-3
+returns-3 c = search (own-none, needs)
+
+pub own-mask-spec : {M : Type 1} → statement M
+own-mask-spec = tie.close (tie.spec sub-power power-requires returns returns-2 returns-3)

@@ -1,0 +1,89 @@
+// The search through beginnings in dictionary order.
+ghost use mathlib.Core.Path.{_≡_};
+ghost use mathlib.Core.Bool.{true};
+ghost use Prim.Native.Nat.{_+_, _-_, _^_, _≤_, _<_};
+ghost use lib.ListN.{length, drop};
+ghost use Rattle.graph.specs.WellFormed.{wellFormed};
+ghost use Rattle.rows.specs.Rows.{blockOf, placed};
+ghost use Rattle.exploring.specs.Masks.{blockMask};
+ghost use Rattle.judging.specs.Judging.{found};
+ghost use Rattle.graph.specs.Graph.{graphOf};
+ghost use Rattle.exploring.specs.Found.{foundBy};
+use crate::stops::set_stops;
+use rows::words::lowest;
+use rows::words::power;
+use rows::words::without;
+use turns::path::stored;
+use turns::path::weight_of;
+use turns::walked::edges_of;
+use turns::walked::rows_walk;
+
+// How a search ended: kind 0 with nothing found, 1 with the path's first places as the first won beginning, 2 cut.
+pub struct Explored {
+    pub kind: u32,
+    pub steps: u32,
+    pub depth: u32,
+}
+
+// An ended search.
+fn ended(kind: u32, steps: u32, depth: u32) -> Explored
+    ensures { λ r. ⌜ (r .kind ≡ kind) × (r .steps ≡ steps) × (r .depth ≡ depth) ⌝ }
+{
+    Explored { kind, steps, depth }
+}
+
+// Tries the beginnings in dictionary order, one a turn, up to the first won one or the budget. Afterwards the path's first
+// places are that beginning, and the places after n are as they were.
+pub fn explore<'a, 'b>(
+    n: u32,
+    edges: &'a [u32; 32],
+    unknowns: &'a [u32; 32],
+    starts: u32,
+    blocks: &'a [u32; 32],
+    budget: u32,
+    path: &'b mut [u8; 32],
+) -> Explored
+    requires { ⌜ (length (now path) ≡ 32) × (wellFormed (graphOf n (now edges) (now unknowns) starts) ≡ true) × (now blocks ≡ placed (blockMask (blockOf starts) n) n) ⌝ }
+    ensures { λ r. ⌜ (foundBy r (now (path .exit)) ≡ found (graphOf n (now (edges .entry)) (now (unknowns .entry)) starts) budget) × (drop n (now (path .exit)) ≡ drop n (now (path .entry))) × (r .depth ≤ n) ⌝ }
+{
+    let ones = edges_of(edges, 1);
+    let mut untried = [0u32; 32];
+    let mut stops = [0u32; 32];
+    let mut left = blocks[0];
+    let mut used = 0u32;
+    let mut depth = 0usize;
+    let mut steps = 0u32;
+    loop {
+        if left == 0 {
+            if depth == 0 {
+                return ended(0, steps, 0);
+            }
+            depth -= 1;
+            used -= weight_of(path[depth]);
+            left = untried[depth];
+        } else {
+            if steps == budget {
+                return ended(2, steps, 0);
+            }
+            let v = lowest(left);
+            let weight = power(v);
+            left -= weight;
+            path[depth] = stored(v);
+            steps += 1;
+            let k = depth as u32 + 1;
+            if (stops[depth] >> v) % 2 == 1 {
+                if (ones >> depth) % 2 == 1 {
+                    return ended(1, steps, k);
+                }
+            } else if k < n {
+                set_stops(edges, unknowns, n, depth, v, &mut stops);
+                untried[depth] = left;
+                used += weight;
+                depth += 1;
+                left = without(blocks[depth], used);
+            } else if rows_walk(edges, unknowns, path, n) == 2 {
+                return ended(1, steps, k);
+            }
+        }
+    }
+}

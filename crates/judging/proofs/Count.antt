@@ -1,0 +1,47 @@
+-- The count is the rules': the reached beginnings in dictionary order up to the first won one, or all of them if none is won.
+use Prim.Native.Nat.{ℕ, suc}
+use native.Mathlib.Omega.{arith}
+use mathlib.Core.Path.{_≡_, sym, ap, _∙_}
+use mathlib.Core.Logic.{_⊎_, _↔_}
+use mathlib.Core.List.{List, [], _∷_, List·Memᴰ}
+use lib.ListN.{length, length-append}
+use Rattle.beginnings.specs.Order.{Rising}
+use Rattle.beginnings.specs.Search.{IsReached, NoneWon, FirstWon, reached, needed, throughWon}
+use Rattle.beginnings.proofs.Reached.{reached-exactly, reached-rises, reached-unique}
+use Rattle.beginnings.proofs.Count.{none-or-first, through-none, through-first}
+use Rattle.graph.specs.declared.Graph.{Graph}
+use Rattle.rows.specs.Rows.{blockOf}
+use Rattle.judging.specs.Judging.{judged, stepsFor}
+
+-- bs are exactly the beginnings of g all of whose shorter beginnings are open, in dictionary order
+pub record AllReached (g : Graph) (bs : List (List ℕ)) : Type 0 where
+  pub exactly : (b : List ℕ) → List·Memᴰ b bs ↔ IsReached (g .order) (blockOf (g .starts)) (judged g) b
+  pub rising : Rising bs
+
+module _ (g : Graph) where
+  -- the list that a search makes is such a list
+  pub reached-all : AllReached g (reached (g .order) (blockOf (g .starts)) (judged g))
+  reached-all = record { exactly = reached-exactly (g .order) (blockOf (g .starts)) (judged g); rising = reached-rises (g .order) (blockOf (g .starts)) (judged g) }
+
+  module _ (bs : List (List ℕ)) (all : AllReached g bs) where
+    -- and there is no other
+    pub reached-alone : bs ≡ reached (g .order) (blockOf (g .starts)) (judged g)
+    reached-alone = reached-unique (g .order) (blockOf (g .starts)) (judged g) bs (all .rising) (all .exactly)
+
+    -- one of them is the first won one, or none is won
+    pub won-or-none : NoneWon (judged g) bs ⊎ ((b : List ℕ) × FirstWon (judged g) bs b)
+    won-or-none = none-or-first (judged g) bs
+
+    steps-through : stepsFor g ≡ length (throughWon (judged g) bs)
+    unfolding needed
+    steps-through = ap (λ (l : List (List ℕ)). length (throughWon (judged g) l)) (sym reached-alone)
+
+    -- if none is won, the steps needed are all of them
+    pub count-none : NoneWon (judged g) bs → stepsFor g ≡ length bs
+    count-none h = steps-through ∙ ap length (through-none (judged g) bs h)
+
+    -- else those up to the first won one, with it
+    pub count-first : (b : List ℕ) (f : FirstWon (judged g) bs b) → stepsFor g ≡ suc (length (f .before))
+    count-first b f =
+        steps-through ∙ ap (λ (l : List (List ℕ)). length (throughWon (judged g) l)) (f .split)
+        ∙ ap length (through-first (judged g) (f .before) b (f .after) (f .none-before) (f .wins)) ∙ omega (arith, length-append (f .before) (b ∷ []))

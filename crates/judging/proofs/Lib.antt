@@ -1,0 +1,12 @@
+pub mod Arrangements
+pub mod Judgements
+pub mod Certificates
+pub mod Exact
+pub mod First
+pub mod Count
+pub mod Buffer
+pub mod Images
+pub mod Sound
+pub mod Literals
+pub mod Smallest
+pub mod Survival

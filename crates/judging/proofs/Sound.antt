@@ -1,0 +1,133 @@
+-- Sound: every fully drawn graph of the same order and blocks that breaks the clause of a certificate has a permitted copy strictly earlier.
+use Prim.Native.Nat.{ℕ}
+use native.Mathlib.Omega.{arith}
+use mathlib.Core.Path.{_≡_, refl, sym, ap₂, _∙_, subst}
+use mathlib.Core.Logic.{_↔_}
+use mathlib.Core.List.{List, _∷_, List·Memᴰ, List·Memᴰ·head, Memᴰ·append-left, Memᴰ·append-right}
+use lib.IntN.{ℤ}
+use lib.ListN.{length, take, drop}
+use lib.Seq.{take-append-seam}
+use Rattle.laws.specs.Each.{Each}
+use Rattle.walk.specs.Clause.{BreaksClause}
+use Rattle.walk.specs.Earlier.{Earlier, copy, LexLess}
+use Rattle.walk.proofs.Broken.{clause-sound}
+use Rattle.graph.specs.declared.Graph.{Graph}
+use Rattle.graph.specs.WellFormed.{WellFormed, FullyDrawn}
+use Rattle.arrangements.specs.Arrangement.{Permitted}
+use Rattle.graph.specs.Graph.{relabelled}
+use Rattle.pairs.specs.Pairs.{pairs}
+use Rattle.graph.specs.Counts.{entryAt}
+use Rattle.graph.specs.Order.{EarlierGraph, matrixWord}
+use Rattle.graph.proofs.Relabelling.{relabelled-order, relabelled-formed, relabelled-drawn}
+use Rattle.graph.proofs.OrderLaws.{same-order}
+use Rattle.judging.specs.declared.Judged.{Judged}
+use Rattle.judging.specs.Judging.{image, walkAll, literalsOf, clauseOf}
+use Rattle.judging.specs.Answer.{told, without, judgeAnswer, judgeBuffer}
+use Rattle.judging.proofs.Arrangements.{samePair-tells, images-inside}
+use Rattle.judging.proofs.Judgements.{walk-stands}
+use Rattle.judging.proofs.Certificates.{Certified, first-certified}
+use Rattle.judging.proofs.Exact.{InWords, malformed, cramped, cut-off, none-smaller, found-smaller, judged-in-words}
+use Rattle.judging.proofs.Buffer.{literals-counted, buffer-written}
+use Rattle.judging.proofs.Images.{relabelled-image}
+
+-- ---- the words of the statement
+
+-- a fully drawn, well-formed graph of order n with these block starts
+pub record FullGraph (n starts : ℕ) (h : Graph) : Type 0 where
+  pub formed : WellFormed h
+  pub full : FullyDrawn h
+  pub order-is : h .order ≡ n
+  pub starts-are : h .starts ≡ starts
+
+-- the copy of h by p is permitted and strictly earlier than h
+pub record EarlierCopy (h : Graph) (p : List ℕ) : Type 0 where
+  pub permitted : Permitted (h .order) (h .starts) p
+  pub earlier : EarlierGraph (relabelled h p) h
+
+-- every literal of the clause is false in h
+abbrev pub BrokenBy : Graph → List ℕ → Graph → Type 0
+BrokenBy g p h = BreaksClause (pairs (g .order)) (clauseOf g p) (entryAt h)
+
+-- ---- copies
+
+-- a drawing with the same entries along ks is as early
+earlier-alike : {P : Type 0} (ks : List P) (x y z : P → ℕ) → Each (λ k. x k ≡ y k) ks → Earlier ks x z → Earlier ks y z
+earlier-alike ks x y z same e =
+    record {
+      before = e .before;
+      pair = e .pair;
+      after = e .after;
+      split = e .split;
+      agree = λ k m. sym (same k (subst (λ l. List·Memᴰ k l) (sym (e .split)) (Memᴰ·append-left (e .pair ∷ e .after) m))) ∙ e .agree k m;
+      zero-here = sym (same (e .pair) (subst (λ l. List·Memᴰ (e .pair) l) (sym (e .split)) (Memᴰ·append-right (e .before) (List·Memᴰ·head refl)))) ∙ e .zero-here;
+      one-there = e .one-there;
+    }
+
+-- the relabelled graph is earlier exactly where the entries of the images are
+pub copy-earlier : (h : Graph) → WellFormed h → (p : List ℕ) → Earlier (pairs (h .order)) (copy (image p) (entryAt h)) (entryAt h) ↔ EarlierGraph (relabelled h p) h
+copy-earlier h w p =
+    rw (relabelled-order h p w) (
+      earlier-alike (pairs (h .order)) (copy (image p) (entryAt h)) (entryAt (relabelled h p)) (entryAt h) (λ k m. sym (relabelled-image h w p k m)),
+      earlier-alike (pairs (h .order)) (entryAt (relabelled h p)) (copy (image p) (entryAt h)) (entryAt h) (relabelled-image h w p),
+    )
+
+-- for fully drawn graphs, in the published order of the matrices too
+pub copy-published : (h : Graph) → WellFormed h → FullyDrawn h → (p : List ℕ) → LexLess (matrixWord (relabelled h p)) (matrixWord h) ↔ EarlierGraph (relabelled h p) h
+copy-published h w d p =
+    same-order (relabelled h p) h (relabelled-formed h p w) w (relabelled-drawn h p w d) d (relabelled-order h p w)
+
+-- ---- sound
+
+module _ (g : Graph) (p : List ℕ) (c : Certified g p) where
+  -- what breaks the clause of the certificate p has by p a permitted copy strictly earlier
+  pub sound : (h : Graph) → FullGraph (g .order) (g .starts) h → BrokenBy g p h → EarlierCopy h p
+  unfolding walkAll literalsOf clauseOf
+  sound h f b =
+      record {
+        permitted = rw (f .order-is, f .starts-are) (c .permitted);
+        earlier =
+            copy-earlier h (f .formed) p .0
+            (rw (f .order-is)
+            (clause-sound samePair-tells (entryAt g) (image p) (pairs (g .order)) (images-inside (g .order) p (c .permitted .reordering)) (c .pair)
+            (walk-stands g p (c .pair) .1 (c .standing)) (entryAt h) (λ j m. f .full .known (j .row) (j .column)) b));
+      }
+
+  -- and in the published order
+  pub sound-published : (h : Graph) → FullGraph (g .order) (g .starts) h → BrokenBy g p h → LexLess (matrixWord (relabelled h p)) (matrixWord h)
+  sound-published h f b = copy-published h (f .formed) (f .full) p .1 (sound h f b .earlier)
+
+-- ---- what judging writes
+
+-- judging g says "smaller"
+abbrev pub SaysSmaller : Graph → ℕ → List ℤ → Type 0
+SaysSmaller g budget buffer = told (judgeAnswer g budget (length buffer) .verdict) .code ≡ 1
+
+-- the literals that it writes at the buffer's start
+abbrev pub written : Graph → ℕ → List ℤ → List ℤ
+written g budget buffer = take (judgeAnswer g budget (length buffer) .literals) (judgeBuffer g budget buffer)
+
+-- the arrangement that goes with "smaller" is a certificate
+smaller-certified : (g : Graph) (budget room : ℕ) → told (judgeAnswer g budget room .verdict) .code ≡ 1 → Certified g (judgeAnswer g budget room .arrangement)
+unfolding told without
+smaller-certified g budget room = at (judged-in-words g budget room)
+  where
+    at : {a : Judged} → InWords g budget room a → told (a .verdict) .code ≡ 1 → Certified g (a .arrangement)
+    at (malformed no-graph) e = absurd (omega arith)
+    at (cramped w h) e = absurd (omega arith)
+    at (cut-off w h l) e = absurd (omega arith)
+    at (none-smaller w h l nowhere) e = absurd (omega arith)
+    at (found-smaller w h l f) e = first-certified f
+
+module _ (g : Graph) (budget : ℕ) (buffer : List ℤ) (says : SaysSmaller g budget buffer) where
+  -- and the literals are its clause
+  written-is : written g budget buffer ≡ clauseOf g (judgeAnswer g budget (length buffer) .arrangement)
+  written-is =
+      let lits : List ℤ = clauseOf g (judgeAnswer g budget (length buffer) .arrangement) in
+      ap₂ take (literals-counted g budget (length buffer) says) (buffer-written g budget buffer says) ∙ take-append-seam lits (drop (length lits) buffer)
+
+  -- so every fully drawn graph of its order and blocks that breaks what judging writes has by the arrangement given a permitted copy strictly earlier
+  pub written-sound : (h : Graph) → FullGraph (g .order) (g .starts) h → BreaksClause (pairs (g .order)) (written g budget buffer) (entryAt h)
+      → EarlierCopy h (judgeAnswer g budget (length buffer) .arrangement)
+  written-sound h f b =
+      sound g (judgeAnswer g budget (length buffer) .arrangement) (smaller-certified g budget (length buffer) says) h f
+      (subst (λ (lits : List ℤ). BreaksClause (pairs (g .order)) lits (entryAt h)) written-is b)

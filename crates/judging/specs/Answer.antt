@@ -1,0 +1,77 @@
+-- The full answer of judging, and what the lent buffer holds afterwards.
+use Prim.Native.Nat.{ℕ, _+_}
+use mathlib.Core.List.{List, _++_}
+use lib.IntN.{ℤ}
+use lib.ListN.{length, drop, replicate}
+use lib.Dec.{leb}
+use Rattle.laws.specs.Test.{unless}
+use Rattle.walk.specs.Walk.{Outcome, won, lost, still-open}
+use Rattle.beginnings.specs.Search.{Found, cut, none, first}
+use Rattle.graph.specs.declared.Graph.{Graph}
+use Rattle.graph.specs.WellFormed.{wellFormed}
+use Rattle.pairs.specs.Pairs.{Pair, pair, pairCount}
+use Rattle.judging.specs.declared.Verdict.{Verdict}
+use Rattle.judging.specs.declared.Verdict.the-variants.{Smaller, Nothing, Cut, Refused}
+use Rattle.judging.specs.declared.Judged.{Judged}
+use Rattle.judging.specs.Judging.{walkAll, clauseOf, found, certificateOf}
+
+-- ---- the verdicts, by number
+
+-- what a verdict tells: its code is 0 for none, 1 for smaller, 2 for cut, 128 and the number for a refusal
+pub record Told : Type 0 where
+  pub code : ℕ
+  pub row : ℕ
+  pub column : ℕ
+  pub steps : ℕ
+  pub place : ℕ
+
+unfoldable pub told : Verdict → Told
+told (Smaller row column steps) = record { code = 1; row = row; column = column; steps = steps; place = 0 }
+told (Nothing steps) = record { code = 0; row = 0; column = 0; steps = steps; place = 0 }
+told (Cut steps) = record { code = 2; row = 0; column = 0; steps = steps; place = 0 }
+told (Refused number place) = record { code = 128 + number; row = 0; column = 0; steps = 0; place = place }
+
+-- ---- the answer
+
+-- zeros for the arrangement, and no literal written
+unfoldable pub without : Verdict → Judged
+without v = record { verdict = v; arrangement = replicate 32 0; literals = 0 }
+
+-- the standing pair, where the walk is won
+unfoldable pub standingPair : Outcome Pair → Pair
+standingPair (won k) = k
+standingPair lost = pair 0 0
+standingPair still-open = pair 0 0
+
+-- the certificate p with its standing pair and its clause
+unfoldable pub smaller : Graph → List ℕ → ℕ → Judged
+smaller g p steps =
+    let k = standingPair (walkAll g p) in
+    record { verdict = Smaller (k .row) (k .column) steps; arrangement = p; literals = length (clauseOf g p) }
+
+unfoldable pub answerFor : Graph → ℕ → Found → Judged
+answerFor g budget cut = without (Cut budget)
+answerFor g budget (none steps) = without (Nothing steps)
+answerFor g budget (first b steps) = smaller g (certificateOf g b) steps
+
+-- judging g within the budget, with room for so many literals
+unfoldable pub judgeAnswer : Graph → ℕ → ℕ → Judged
+judgeAnswer g budget room =
+    unless (wellFormed g) (without (Refused 8 0))
+    (unless (leb (pairCount (g .order)) room) (without (Refused 5 0))
+    (answerFor g budget (found g budget)))
+
+-- ---- the buffer
+
+-- the literals at the buffer's start where the verdict is smaller, else the buffer as it was
+unfoldable pub atStart : Verdict → List ℤ → List ℤ → List ℤ
+atStart (Smaller row column steps) lits buffer = lits ++ drop (length lits) buffer
+atStart (Nothing steps) lits buffer = buffer
+atStart (Cut steps) lits buffer = buffer
+atStart (Refused number place) lits buffer = buffer
+
+-- what the buffer holds after judging: the clause of the certificate at its start, and nothing after it is changed
+unfoldable pub judgeBuffer : Graph → ℕ → List ℤ → List ℤ
+judgeBuffer g budget buffer =
+    let answer = judgeAnswer g budget (length buffer) in
+    atStart (answer .verdict) (clauseOf g (answer .arrangement)) buffer

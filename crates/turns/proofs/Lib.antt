@@ -1,0 +1,4 @@
+pub mod CodeTurns
+pub mod AlikeRows
+pub mod TurnCodes
+pub mod LastJudged
