@@ -398,7 +398,7 @@ struct Search {
         if (result != z3::unsat)
             stop(1, "Z3 gave up, so there may be more");
         if (unsure != 0)
-            stop(1, std::to_string(unsure) + " of them were cut, so they may be copies of others");
+            stop(1, std::to_string(unsure) + " of these may be copies of others: the checker was cut");
         if (!std::cout)
             stop(1, "they could not all be written");
     }
