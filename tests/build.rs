@@ -1,4 +1,5 @@
-//! Compiles the C baseline, and names the proved library where it is asked for.
+//! Compiles the C baseline, and names the proved library where the benchmark is to
+//! be linked with it.
 
 use std::env;
 use std::path::PathBuf;
@@ -28,10 +29,12 @@ fn main() {
     println!("cargo:rerun-if-changed={}", home.join("baseline").display());
 
     if env::var_os("CARGO_FEATURE_LIBRARY").is_some() {
-        let folder = home.join("../target/staticlib");
+        let named = env::var_os("CAFRUZEK_LIB").map(PathBuf::from);
+        let folder = named.unwrap_or_else(|| home.join("../target/staticlib"));
         println!("cargo:rustc-link-search=native={}", folder.display());
         println!("cargo:rustc-link-lib=static=cafruzek");
         println!("cargo:rerun-if-changed={}", folder.join("libcafruzek.a").display());
     }
+    println!("cargo:rerun-if-env-changed=CAFRUZEK_LIB");
     println!("cargo:rerun-if-changed=build.rs");
 }

@@ -1,5 +1,5 @@
 /* include/cafruzek.h, compiled as C and as C++: worked graphs through each of its
- * functions. */
+ * functions, and numbers of every code taken apart. */
 #include <stdio.h>
 #include <stdlib.h>
 #include <string.h>
@@ -92,9 +92,35 @@ static void records(void)
     CHECK(unchanged());
 }
 
+/* Takes apart the number with these fields, put together as C1 of docs/RULES.md says. */
+static void apart(uint64_t code, uint64_t count, uint64_t column, uint64_t row, uint64_t low)
+{
+    uint64_t answer = (((code * 4096 + count) * 64 + column) * 64 + row) * 4294967296 + low;
+    CHECK(cafruzek_code(answer) == code);
+    CHECK(cafruzek_refusal(answer) == (code > 128 ? code - 128 : 0));
+    CHECK(cafruzek_literals(answer) == count);
+    CHECK(cafruzek_column(answer) == column && cafruzek_row(answer) == row);
+    CHECK(cafruzek_place(answer) == low && cafruzek_steps(answer) == low && cafruzek_bytes(answer) == low);
+}
+
+/* Every code, with the least and the most of each field, whatever the others are. */
+static void fields(void)
+{
+    static const uint64_t codes[15] = {0, 1, 2, 129, 130, 131, 132, 133, 134, 135, 136, 137, 138, 139, 140};
+    static const uint64_t counts[6] = {0, 1, 255, 256, 496, 511};
+    static const uint64_t vertices[6] = {0, 1, 31, 32, 33, 63};
+    static const uint64_t lows[6] = {0, 1, 129, 0x7fffffff, 0x80000000, 0xffffffff};
+
+    for (int i = 0; i < 15 * 6; i++)
+        for (int j = 0; j < 6 * 6; j++)
+            for (int k = 0; k < 6; k++)
+                apart(codes[i / 6], counts[i % 6], vertices[j / 6], vertices[j % 6], lows[k]);
+}
+
 int main(void)
 {
     judging();
     records();
+    fields();
     return 0;
 }

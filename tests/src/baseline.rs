@@ -1,8 +1,7 @@
 //! The C baseline.
 
-use crate::graph::Graph;
+use crate::call::Call;
 use crate::linked::Linked;
-use crate::verdict::Judgement;
 
 unsafe extern "C" {
     fn baseline_judge_record(
@@ -44,7 +43,7 @@ pub const BASELINE: Linked = Linked {
     write_record: baseline_write_record,
 };
 
-/// Judges a graph value.
-pub fn judge(graph: &Graph, budget: u32, literals: &mut [i32]) -> Judgement {
-    BASELINE.judge(graph, budget, literals)
+/// Makes these calls.
+pub fn make(calls: &mut [Call]) -> Vec<u64> {
+    calls.iter_mut().map(|call| BASELINE.make(call)).collect()
 }

@@ -1,16 +1,14 @@
 //! The plain judge, the fast one and the C baseline agree.
 
 use oracle::arrangement::{permitted, relabel};
-use oracle::baseline;
 use oracle::graph::Graph;
 use oracle::judge::{judge, well_formed};
 use oracle::judge_plain::judge_plain;
+use oracle::judges::{UNTOUCHED, by_baseline};
 use oracle::pairs::pairs;
 use oracle::random::Random;
 use oracle::samples;
 use oracle::verdict::Verdict;
-
-const UNTOUCHED: i32 = 7777;
 
 /// Compares all three on one graph and budget, with their whole buffers.
 fn agree(graph: &Graph, budget: u32) {
@@ -24,10 +22,8 @@ fn agree(graph: &Graph, budget: u32) {
 
 fn same_as_baseline(graph: &Graph, budget: u32) -> u32 {
     let mut fast = [UNTOUCHED; 496];
-    let mut plain_c = [UNTOUCHED; 496];
     let judgement = judge(graph, budget, &mut fast);
-    assert_eq!(judgement, baseline::judge(graph, budget, &mut plain_c), "{graph:?}");
-    assert_eq!(fast, plain_c, "{graph:?}");
+    assert_eq!(by_baseline(&[*graph], budget, 496), [(judgement, fast.to_vec())], "{graph:?}");
     judgement.steps()
 }
 

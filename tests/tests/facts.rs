@@ -1,33 +1,30 @@
 //! What the answers mean, against brute force on small orders.
 
 use oracle::arrangement::{all_permitted, compose, invert, relabel};
+use oracle::call::BATCH;
 use oracle::graph::Graph;
+use oracle::judges::{JUDGES, Judge};
 use oracle::pairs::pair_count;
 use oracle::random::Random;
 use oracle::samples;
 use oracle::smallest::{Clause, all_starts, graph_of, smallest};
 use oracle::verdict::Verdict;
-use oracle::{JUDGES, Judge};
 
-fn is_none(judge: Judge, graph: &Graph) -> bool {
-    matches!(judge(graph, u32::MAX, &mut [0; 15]).verdict, Verdict::Nothing { .. })
-}
-
-/// The clause of a graph of order up to 6, if one is written.
-fn clause(judge: Judge, graph: &Graph) -> Option<Clause> {
-    let mut literals = [0; 15];
-    let judgement = judge(graph, u32::MAX, &mut literals);
-    (judgement.literals > 0).then(|| Clause::new(graph.order, &literals[..judgement.literals]))
+/// The full drawings that are judged "none".
+fn judged_none(judge: Judge, order: u32, starts: u32) -> Vec<u32> {
+    let drawings = 0..1 << pair_count(order);
+    let graphs: Vec<Graph> = drawings.map(|drawing| graph_of(order, starts, drawing)).collect();
+    let judged = judge(&graphs, u32::MAX, 15);
+    let is_none = |verdict| matches!(verdict, Verdict::Nothing { .. });
+    (0..).zip(judged).filter(|(_, judged)| is_none(judged.0.verdict)).map(|(d, _)| d).collect()
 }
 
 /// How many full drawings are judged "none" in one block, and how many of them
 /// are connected.
 fn census_of(judge: Judge, order: u32) -> (usize, usize) {
-    let none: Vec<Graph> = (0..1 << pair_count(order))
-        .map(|drawing| graph_of(order, 1, drawing))
-        .filter(|graph| is_none(judge, graph))
-        .collect();
-    (none.len(), none.iter().filter(|graph| graph.connected()).count())
+    let none = judged_none(judge, order, 1);
+    let connected = none.iter().filter(|&&drawing| graph_of(order, 1, drawing).connected());
+    (none.len(), connected.count())
 }
 
 #[test]
@@ -44,10 +41,7 @@ fn none_is_smallest_on_full_drawings() {
         for starts in all_starts(order) {
             let smallest = smallest(order, starts);
             for &judge in JUDGES {
-                let judged: Vec<u32> = (0..1 << pair_count(order))
-                    .filter(|&drawing| is_none(judge, &graph_of(order, starts, drawing)))
-                    .collect();
-                assert_eq!(judged, smallest);
+                assert_eq!(judged_none(judge, order, starts), smallest);
             }
         }
     }
@@ -90,12 +84,22 @@ fn all_smallest(order: u32) -> Vec<Vec<u32>> {
     all_starts(order).map(|starts| smallest(order, starts)).collect()
 }
 
-/// Checks the clause that each judge writes against every smallest graph.
-fn check_clause(graph: &Graph, all_smallest: &[Vec<u32>]) {
-    for &judge in JUDGES {
-        if let Some(clause) = clause(judge, graph) {
-            let smallest = &all_smallest[graph.starts as usize >> 1];
-            assert!(smallest.iter().all(|&drawing| clause.satisfied(drawing)), "{graph:?}");
+/// Checks every clause that each judge writes for these graphs of an order up to 6
+/// against every smallest graph.
+fn check_clauses(mut graphs: impl Iterator<Item = Graph>, all_smallest: &[Vec<u32>]) {
+    loop {
+        let batch: Vec<Graph> = graphs.by_ref().take(BATCH).collect();
+        if batch.is_empty() {
+            return;
+        }
+        for judge in JUDGES {
+            for (graph, (judgement, literals)) in batch.iter().zip(judge(&batch, u32::MAX, 15)) {
+                if judgement.literals > 0 {
+                    let clause = Clause::new(graph.order, &literals[..judgement.literals]);
+                    let smallest = &all_smallest[graph.starts as usize >> 1];
+                    assert!(smallest.iter().all(|&drawing| clause.satisfied(drawing)), "{graph:?}");
+                }
+            }
         }
     }
 }
@@ -103,20 +107,18 @@ fn check_clause(graph: &Graph, all_smallest: &[Vec<u32>]) {
 #[test]
 fn every_clause_up_to_order_5_is_satisfied_by_every_smallest_graph() {
     for order in 1..=5 {
-        let smallest = all_smallest(order);
-        samples::every_graph(order).for_each(|graph| check_clause(&graph, &smallest));
+        check_clauses(samples::every_graph(order), &all_smallest(order));
     }
 }
 
 #[test]
 fn clauses_of_order_6_are_satisfied_by_every_smallest_graph() {
-    let smallest = all_smallest(6);
     let mut random = Random::new(7);
-    for _ in 0..100_000 {
+    let graphs = (0..100_000).flat_map(|_| {
         let graph = samples::graph(&mut random, 6);
-        check_clause(&graph, &smallest);
-        check_clause(&samples::settled(graph, 20), &smallest);
-    }
+        [graph, samples::settled(graph, 20)]
+    });
+    check_clauses(graphs, &all_smallest(6));
 }
 
 #[test]

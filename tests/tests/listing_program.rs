@@ -1,14 +1,17 @@
 //! The listing program against the oracle's listing, byte for byte.
+//!
+//! CAFRUZEK_LISTING has the command words that start it, if not the program alone.
 #![cfg(feature = "listing")]
 
+use std::env;
 use std::io::{ErrorKind, Write};
-use std::path::Path;
-use std::process::{Command, Stdio};
+use std::process::Stdio;
 use std::thread;
 use std::time::Duration;
 
 use oracle::graph::Graph;
 use oracle::listing::listing;
+use oracle::program::command;
 use oracle::random::Random;
 use oracle::record::record;
 use oracle::samples;
@@ -16,8 +19,8 @@ use oracle::samples;
 /// What the program prints for a book that comes in pieces of this size, with
 /// a pause between them.
 fn printed(book: &[u8], piece: usize, pause: Duration) -> String {
-    let program = Path::new(env!("CARGO_MANIFEST_DIR")).join("../target/bin/listing");
-    let mut child = Command::new(program)
+    let words = env::var("CAFRUZEK_LISTING");
+    let mut child = command(words.as_deref().unwrap_or("../target/bin/listing"))
         .stdin(Stdio::piped())
         .stdout(Stdio::piped())
         .spawn()

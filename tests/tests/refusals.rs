@@ -1,9 +1,9 @@
 //! Every refusal, in the order of its checks, and what it gives besides.
 
-use oracle::JUDGES;
 use oracle::arrangement::{compose, invert, listed, relabel};
 use oracle::graph::{Counts, Graph, Refusal};
 use oracle::judge_plain::judge_plain;
+use oracle::judges::{JUDGES, UNTOUCHED};
 use oracle::record::{Reader, field, read, size, write};
 use oracle::verdict::{Judgement, Verdict};
 
@@ -55,7 +55,7 @@ fn a_malformed_graph_is_refused_first() {
         assert_eq!(relabel(&graph, &[9; 32]), Err(eight));
         assert_eq!(write(&graph, &mut []), Err(eight));
         let refused = Judgement::without(Verdict::Refused(eight));
-        assert!(JUDGES.iter().all(|judge| judge(&graph, 100, &mut []) == refused));
+        assert!(JUDGES.iter().all(|judge| judge(&[graph], 100, 0) == [(refused, vec![])]));
         assert_eq!(judge_plain(&graph, 100, &mut []), refused);
     }
 }
@@ -186,15 +186,13 @@ fn judging_refuses_a_short_buffer_before_it_searches() {
         let graph = Graph::empty(order);
         let needed = (order * (order - 1) / 2) as usize;
         for length in needed.saturating_sub(2)..needed + 2 {
-            let expected = if length < needed {
+            let expected = Judgement::without(if length < needed {
                 Verdict::Refused(refusal(5, 0))
             } else {
                 Verdict::Cut { steps: 0 }
-            };
+            });
             for judge in JUDGES {
-                let mut buffer = vec![7; length];
-                assert_eq!(judge(&graph, 0, &mut buffer), Judgement::without(expected));
-                assert!(buffer.iter().all(|&literal| literal == 7));
+                assert_eq!(judge(&[graph], 0, length), [(expected, vec![UNTOUCHED; length])]);
             }
         }
     }

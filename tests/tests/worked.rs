@@ -1,22 +1,21 @@
 //! The worked graphs of the rules, through every way of judging.
 
-use oracle::JUDGES;
 use oracle::arrangement::listed;
 use oracle::graph::{Graph, Refusal};
 use oracle::judge_plain::judge_plain;
+use oracle::judges::{JUDGES, UNTOUCHED};
 use oracle::record::{read, record};
 use oracle::verdict::{Judgement, Verdict};
 
 /// Judges in every way, all of which must agree; gives the clause too.
 fn judged(graph: &Graph, budget: u32) -> (Judgement, Vec<i32>) {
-    let mut literals = [7777; 496];
+    let mut literals = vec![UNTOUCHED; 496];
     let judgement = judge_plain(graph, budget, &mut literals);
     for judge in JUDGES {
-        let mut others = [7777; 496];
-        assert_eq!(judge(graph, budget, &mut others), judgement);
-        assert_eq!(others, literals);
+        assert_eq!(judge(&[*graph], budget, 496), [(judgement, literals.clone())]);
     }
-    (judgement, literals[..judgement.literals].to_vec())
+    literals.truncate(judgement.literals);
+    (judgement, literals)
 }
 
 fn smaller(graph: Graph, vertices: &[u32], pair: (u32, u32), clause: &[i32], steps: u32) {
@@ -90,8 +89,8 @@ fn literals_of_order_32() {
     let graph = Graph::empty(32);
     for judge in JUDGES {
         let cut = Judgement::without(Verdict::Cut { steps: 10 });
-        assert_eq!(judge(&graph, 10, &mut [0; 496]), cut);
+        assert_eq!(judge(&[graph], 10, 496), [(cut, vec![UNTOUCHED; 496])]);
         let refused = Judgement::without(Verdict::Refused(Refusal { number: 5, place: 0 }));
-        assert_eq!(judge(&graph, 10, &mut [0; 495]), refused);
+        assert_eq!(judge(&[graph], 10, 495), [(refused, vec![UNTOUCHED; 495])]);
     }
 }

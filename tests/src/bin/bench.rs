@@ -9,7 +9,8 @@ use std::time::{Duration, Instant};
 
 use oracle::graph::Graph;
 use oracle::judge::judge;
-use oracle::linked::{Linked, packed, packed_size};
+use oracle::linked::Linked;
+use oracle::packing::{packed, packed_size};
 use oracle::random::Random;
 use oracle::verdict::{Judgement, Verdict};
 use oracle::{baseline, record, samples};
@@ -38,21 +39,37 @@ impl Room {
 type Contender = (&'static str, fn(&Call, &mut Room) -> u64);
 
 fn linked_answer(linked: &Linked, call: &Call, room: &mut Room) -> u64 {
-    match call {
-        Call::JudgeRows(graph, budget) => {
-            linked.judge_rows(graph, *budget, &mut room.literals, &mut room.arrangement)
+    let (literals, length) = (room.literals.as_mut_ptr(), room.literals.len());
+    let arrangement = room.arrangement.as_mut_ptr();
+    let (out, out_length) = (room.bytes.as_mut_ptr(), room.bytes.len());
+    // SAFETY: each pointer is to as many elements as the length beside it says;
+    // rows and arrangements are 32.
+    unsafe {
+        match call {
+            Call::JudgeRows(graph, budget) => {
+                let Graph { order, starts, .. } = *graph;
+                let (edges, unknowns) = (graph.edges.as_ptr(), graph.unknowns.as_ptr());
+                let judge = linked.judge_rows;
+                judge(order, edges, unknowns, starts, *budget, literals, length, arrangement)
+            }
+            Call::JudgeRecord(bytes, budget) => {
+                let (record, record_length) = (bytes.as_ptr(), bytes.len());
+                let judge = linked.judge_record;
+                judge(record, record_length, *budget, literals, length, arrangement)
+            }
+            Call::RecordSize(bytes) => (linked.record_size)(bytes.as_ptr(), bytes.len()),
+            Call::WriteRecord(graph) => {
+                let Graph { order, starts, .. } = *graph;
+                let (edges, unknowns) = (graph.edges.as_ptr(), graph.unknowns.as_ptr());
+                (linked.write_record)(order, edges, unknowns, starts, out, out_length)
+            }
         }
-        Call::JudgeRecord(bytes, budget) => {
-            linked.judge_record(bytes, *budget, &mut room.literals, &mut room.arrangement)
-        }
-        Call::RecordSize(bytes) => linked.record_size(bytes),
-        Call::WriteRecord(graph) => linked.write_record(graph, &mut room.bytes),
     }
 }
 
 #[cfg(feature = "library")]
 fn library_answer(call: &Call, room: &mut Room) -> u64 {
-    linked_answer(&oracle::library::LIBRARY, call, room)
+    linked_answer(&oracle::archive::ARCHIVE, call, room)
 }
 
 fn c_answer(call: &Call, room: &mut Room) -> u64 {
