@@ -4,21 +4,17 @@ use native.Mathlib.Omega.{arith}
 use native.Mathlib.Numerals.{add-one}
 use mathlib.Core.Path.{_≡_, refl, sym, ap, _∙_}
 use mathlib.Core.Logic.{_≢_}
-use mathlib.Core.List.{List, [], _∷_, append-assoc}
-use lib.Count.{ones, ones-le}
+use mathlib.Core.List.{List}
 use lib.Dec.{eqb}
 use lib.ListN.{length, getD, set, replicate, length-set}
-use lib.Seq.{set-at, getD-set-same, getD-set-other}
-use mir.Syntax.{w32}
-use mir.Val.{Fits}
+use lib.Seq.{getD-set-same, getD-set-other}
 use borrow.Author.Tests.{eq-eqb, ne-eqb}
 use Rattle.laws.specs.Compared.{by-below, by-same}
 use Rattle.laws.specs.TestLaws.{pick-true, pick-false}
 use Rattle.laws.specs.Bit.{bit}
-use Rattle.laws.specs.UpTo.{wordUpTo, listUpTo}
-use Rattle.laws.specs.UpToLaws.{list-length}
+use Rattle.laws.specs.UpTo.{wordUpTo}
 use Rattle.laws.specs.Loops.{word-turns, word-grows, word-fits}
-use Rattle.rows.specs.Rows.{row, placed, onesAt}
+use Rattle.rows.specs.Rows.{row, placed}
 use Rattle.rows.proofs.Placed.{zeros, placed-length, placed-at, placed-past, same-places, placed-of}
 use Rattle.rows.proofs.Filled.{placed-done}
 use Rattle.arrangements.specs.Arrangement.{at, movedBit, movedRow, through, composed, inverse, placeOf}

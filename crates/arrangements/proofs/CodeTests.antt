@@ -1,23 +1,18 @@
 -- What the code's tests of arrangements come to, one law for each answer that it gives.
-use Prim.Native.Nat.{ℕ, _+_, _-_, _*_, _/_, _%_, _≤_, _<_, _^_}
+use Prim.Native.Nat.{ℕ, _+_, _-_, _/_, _%_, _≤_, _<_, _^_}
 use native.Mathlib.Omega.{arith}
 use mathlib.Core.Path.{_≡_, refl, sym, ap, ap₂, _∙_}
 use mathlib.Core.Bool.{Bool, true, false, not}
 use mathlib.Core.List.{List}
-use native.Mathlib.Nat.{one-mul, div-one}
-use lib.Dec.{leb, ltb, eqb, lit<}
-use lib.ListN.{length, set}
-use lib.Pow.{shl-exact}
-use borrow.Author.Tests.{eq-eqb, ne-eqb, le-leb, lt-leb, lt-ltb, le-ltb, leb-true}
+use lib.Dec.{leb, eqb}
+use lib.ListN.{length}
+use borrow.Author.Tests.{eq-eqb, le-leb, lt-leb, leb-true}
 use Rattle.laws.specs.Test.{both, pick}
 use Rattle.laws.specs.UpTo.{allUpTo, sumUpTo}
-use Rattle.laws.specs.Bit.{withBit}
-use Rattle.laws.specs.BitLaws.{bit-in, withBit-below}
 use Rattle.laws.specs.TestLaws.{both-first, both-second}
 use Rattle.laws.specs.UpToLaws.{all-at}
 use Rattle.laws.specs.Loops.{all-done, all-stops, sum-turns}
-use Rattle.rows.specs.Rows.{row, entryIn, withMark, startAt, blockOf}
-use Rattle.rows.specs.Fits.{pairFits, rowFits, startsFit}
+use Rattle.rows.specs.Rows.{startAt, blockOf}
 use Rattle.arrangements.specs.Arrangement.{at, differs, isNew, placeFits, isReordering, staysInBlock, isPermitted}
 
 pub block-turns : (starts i s : ℕ) → s ≡ sumUpTo (startAt starts) i → s + starts / 2 ^ i % 2 ≡ sumUpTo (startAt starts) (i + 1)

@@ -4,7 +4,6 @@ use mathlib.Core.List.{List}
 use lib.IntN.{ℤ}
 use lib.Dec.{eqb}
 use Rattle.laws.specs.Test.{pick}
-use Rattle.graph.specs.declared.Graph.{Graph}
 use Rattle.record.specs.Answers.{readAnswer}
 use Rattle.judging.specs.declared.Verdict.{Verdict}
 use Rattle.judging.specs.declared.Verdict.the-variants.{Smaller, Nothing, Cut, Refused}
@@ -25,10 +24,6 @@ unfoldable pub arrangedAfter : Judged → List ℕ → List ℕ
 arrangedAfter a lent = arrangedBy (a .verdict) (a .arrangement) lent
 
 -- ---- rows
-
--- the graph value of the rows
-abbrev pub graphOf : ℕ → List ℕ → List ℕ → ℕ → Graph
-graphOf order edges unknowns starts = record { order = order; edges = edges; unknowns = unknowns; starts = starts }
 
 -- ---- a record
 

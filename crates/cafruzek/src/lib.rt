@@ -13,7 +13,8 @@ ghost use lib.ListN.{length};
 ghost use Rattle.record.specs.Answers.{recordAt, writeAnswer, bufferAfter};
 ghost use Rattle.judging.specs.Answer.{judgeAnswer, judgeBuffer};
 ghost use Rattle.cafruzek.specs.Packing.{packed, packedExtent, packedWritten};
-ghost use Rattle.cafruzek.specs.Answers.{arrangedAfter, graphOf, judgeRecord, judgeRecordBuffer};
+ghost use Rattle.cafruzek.specs.Answers.{arrangedAfter, judgeRecord, judgeRecordBuffer};
+ghost use Rattle.graph.specs.Graph.{graphOf};
 
 mod packing;
 

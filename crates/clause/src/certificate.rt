@@ -1,6 +1,6 @@
 // The first certificate: the won beginning completed, and its standing pair.
 ghost use mathlib.Core.Path.{_≡_};
-ghost use Prim.Native.Nat.{_+_, _-_, _≤_, _<_};
+ghost use Prim.Native.Nat.{_-_, _≤_};
 ghost use lib.ListN.{length, take, drop, replicate};
 ghost use Rattle.beginnings.specs.Beginning.{Beginning};
 ghost use Rattle.beginnings.specs.Certificate.{completed};

@@ -8,10 +8,7 @@ use lib.ListN.{length, getD}
 use lib.Dec.{eqb}
 use Rattle.laws.specs.Test.{pick}
 use Rattle.laws.specs.Bit.{bit}
-use Rattle.beginnings.specs.Search.{none, first}
 use Rattle.rows.specs.Rows.{row}
-use Rattle.arrangements.specs.Arrangement.{at}
-use Rattle.pairs.specs.Pairs.{pair}
 use Rattle.turns.specs.Turns.{allMarks, marksOf}
 
 -- the vertex that makes the pair (1, k) its own image where u stands at place 1, as a mask

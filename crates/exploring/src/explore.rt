@@ -1,7 +1,7 @@
 // The search through beginnings in dictionary order.
 ghost use mathlib.Core.Path.{_≡_};
 ghost use mathlib.Core.Bool.{true};
-ghost use Prim.Native.Nat.{_+_, _-_, _^_, _≤_, _<_};
+ghost use Prim.Native.Nat.{_≤_};
 ghost use lib.ListN.{length, drop};
 ghost use Rattle.graph.specs.WellFormed.{wellFormed};
 ghost use Rattle.rows.specs.Rows.{blockOf, placed};

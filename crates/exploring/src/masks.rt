@@ -1,8 +1,6 @@
 // Masks of vertices: vertex v is bit v - 1.
 ghost use mathlib.Core.Path.{_≡_};
-ghost use Prim.Native.Nat.{_+_, _-_, _^_, _≤_, _<_};
-ghost use lib.Bits.{bitAnd};
-ghost use lib.Count.{trailingZeros};
+ghost use Prim.Native.Nat.{_+_, _≤_, _<_};
 ghost use Rattle.rows.specs.Rows.{blockOf, placed};
 use rows::words::lowest;
 use rows::words::power;

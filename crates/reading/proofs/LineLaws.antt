@@ -1,5 +1,5 @@
 -- The lines that reading finds, and the first refused entry.
-use Prim.Native.Nat.{ℕ, zero, suc, _+_, _-_, _*_, _/_, _%_, _^_, _≤_, _<_, min}
+use Prim.Native.Nat.{ℕ, suc, _+_, _-_, _*_, _/_, _%_, _^_, _≤_, _<_, min}
 use mathlib.Core.Path.{_≡_, refl, sym, ap, ap₂, _∙_}
 use mathlib.Core.Logic.{_≢_}
 use mathlib.Core.Bool.{Bool, true, false}
@@ -17,7 +17,6 @@ use mir.Syntax.{w32, w64}
 use mir.Val.{Fits}
 use Rattle.laws.specs.Compared.{by-below}
 use Rattle.laws.specs.Test.{pick, both}
-use Rattle.laws.specs.TestLaws.{both-first}
 use Rattle.laws.specs.Bit.{bit}
 use Rattle.laws.specs.BitLaws.{bit-of-and, bit-of-zero, bit-of-half, bit-of-low, bit-of-high, bits-past, same-word, same-number}
 use Rattle.laws.specs.Masks.{lowest-set, lowest-least, lowest-below, not-empty}

@@ -1,13 +1,12 @@
 -- What reading finds beside the entries: the order, the block starts, the padding.
 use Prim.Native.Nat.{ℕ, _+_, _-_, _*_, _/_, _%_, _^_, _≤_, _<_}
-use mathlib.Core.Path.{_≡_, refl, sym, ap, _∙_}
+use mathlib.Core.Path.{_≡_, sym, ap, _∙_}
 use mathlib.Core.List.{List}
 use native.Mathlib.Omega.{arith}
 use borrow.Author.Tests.{eq-eqb, ne-eqb}
 use lib.Dec.{eqb}
 use lib.ListN.{getD}
 use Rattle.laws.specs.Compared.{by-same}
-use Rattle.laws.specs.Test.{pick}
 use Rattle.laws.specs.TestLaws.{pick-true, pick-false}
 use Rattle.laws.specs.Bit.{bit}
 use Rattle.laws.specs.UpTo.{wordUpTo}

@@ -1,6 +1,6 @@
 -- A number of many bits, taken from the bytes one after the other.
 use Prim.Native.Nat.{ℕ, _+_, _-_, _*_, _/_, _%_, _^_, _≤_, _<_}
-use mathlib.Core.Path.{_≡_, refl, sym, ap, ap₂, _∙_}
+use mathlib.Core.Path.{_≡_, sym, ap, ap₂, _∙_}
 use mathlib.Core.List.{List}
 use native.Mathlib.Nat.{lt-of-lt-of-le, le-of-lt, mul-le-mul-right}
 use native.Mathlib.Omega.{arith}

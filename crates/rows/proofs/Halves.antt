@@ -1,15 +1,14 @@
 -- Rows given above the diagonal, with the same below it, are the rows of the mirrored table.
-use Prim.Native.Nat.{ℕ, _+_, _-_, _^_, _≤_, _<_, max}
+use Prim.Native.Nat.{ℕ, _-_, _^_, _≤_, _<_, max}
 use native.Mathlib.Omega.{arith}
 use native.Mathlib.Nat.{lt-of-lt-of-le}
-use mathlib.Core.Path.{_≡_, refl, sym, ap, ap₂, _∙_}
+use mathlib.Core.Path.{_≡_, sym, ap, ap₂, _∙_}
 use mathlib.Core.List.{List}
 use lib.Dec.{ltb}
 use lib.Pow.{pow-mono}
-use lib.Bits.{bitOr, or-lt}
+use lib.Bits.{or-lt}
 use borrow.Author.Tests.{lt-ltb, le-ltb}
 use Rattle.laws.specs.Compared.{by-below, by-order}
-use Rattle.laws.specs.Test.{pick}
 use Rattle.laws.specs.TestLaws.{pick-true, pick-false}
 use Rattle.laws.specs.UpTo.{wordUpTo}
 use Rattle.laws.specs.UpToLaws.{word-below, word-bit, word-past}

@@ -1,16 +1,13 @@
 -- The bits of rows after a stage, and after all five.
-use Prim.Native.Nat.{ℕ, zero, suc, _+_, _-_, _*_, _/_, _%_, _^_, _≤_, _<_, min, max}
+use Prim.Native.Nat.{ℕ, _+_, _-_, _*_, _/_, _%_, _^_, _<_}
 use native.Mathlib.Omega.{arith}
-use native.Mathlib.Nat.{mod-lt}
-use mathlib.Core.Path.{_≡_, refl, sym, ap, _∙_}
-use mathlib.Core.List.{List}
-use lib.ListN.{getD}
+use mathlib.Core.Path.{_≡_, sym, ap, _∙_}
 use lib.Pow.{pow-pos, split, shr-shr}
-use lib.Bits.{bitAnd, bitOr}
+use lib.Bits.{bitAnd}
 use Rattle.laws.specs.Compared.{by-below}
 use Rattle.laws.specs.Bit.{bit}
 use Rattle.laws.specs.BitLaws.{bit-of-zero, bit-of-and, bit-of-or, bit-of-low, bit-of-high}
-use Rattle.rows.specs.Stage.{lower, upper, staged}
+use Rattle.rows.specs.Stage.{lower, upper}
 
 -- ---- bits of a shifted word
 

@@ -1,5 +1,5 @@
 -- The rows stand beside the columns of the mixed rows exactly where every row fits.
-use Prim.Native.Nat.{ℕ, zero, suc, _+_, _-_, _*_, _/_, _%_, _^_, _≤_, _<_, min, max}
+use Prim.Native.Nat.{ℕ, suc, _+_, _-_, _*_, _/_, _%_, _^_, _≤_, _<_}
 use native.Mathlib.Omega.{arith}
 use native.Mathlib.Nat.{mod-lt, mod-le, lt-of-lt-of-le, lt-of-le-of-lt}
 use mathlib.Core.Path.{_≡_, refl, sym, ap, _∙_}
@@ -13,7 +13,7 @@ use mir.Syntax.{w32}
 use mir.Val.{Fits}
 use borrow.Author.Tests.{ltb-true, leb-true, eqb-true, lt-ltb, le-leb, eq-eqb}
 use Rattle.laws.specs.Compared.{by-below, by-order, by-same}
-use Rattle.laws.specs.Test.{both, pick}
+use Rattle.laws.specs.Test.{pick}
 use Rattle.laws.specs.TestLaws.{both-first, both-second, both-hold, same-test}
 use Rattle.laws.specs.UpTo.{allUpTo}
 use Rattle.laws.specs.UpToLaws.{all-at, all-hold}

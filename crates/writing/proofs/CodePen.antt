@@ -1,16 +1,12 @@
 -- What the code of the pen comes to.
 use Prim.Native.Nat.{ℕ, _+_, _-_, _*_, _/_, _%_, _^_, _≤_, _<_}
-use native.Mathlib.Omega.{arith}
-use native.Mathlib.Nat.{one-mul}
-use mathlib.Core.Path.{_≡_, refl, sym, ap, _∙_}
+use mathlib.Core.Path.{_≡_}
 use mathlib.Core.List.{List}
-use lib.Dec.{lit<}
 use lib.ListN.{set}
-use lib.Pow.{shl-exact, pow-pos}
 use borrow.Author.Tests.{lt-ltb, le-ltb}
 use Rattle.laws.specs.Test.{pick}
 use Rattle.writing.specs.declared.pen.Pen.{Pen}
-use Rattle.writing.specs.Pushed.{IsPushed, total, among}
+use Rattle.writing.specs.Pushed.{IsPushed}
 
 abbrev pub pen : ℕ → ℕ → ℕ → Pen
 pen s h k = record { stored = s; have = h; kept = k }

@@ -1,9 +1,9 @@
 -- What each call of the pen brings, and what it needs.
-use Prim.Native.Nat.{ℕ, zero, suc, _+_, _-_, _*_, _/_, _%_, _^_, _≤_, _<_}
+use Prim.Native.Nat.{ℕ, suc, _+_, _-_, _*_, _/_, _%_, _≤_, _<_}
 use native.Mathlib.Omega.{arith}
-use native.Mathlib.Nat.{mul-comm, lt-of-le-of-lt, lt-of-lt-of-le}
+use native.Mathlib.Nat.{mul-comm, lt-of-le-of-lt}
 use native.Mathlib.Numerals.{add-one}
-use mathlib.Core.Path.{_≡_, refl, sym, ap, ap₂, _∙_, subst}
+use mathlib.Core.Path.{_≡_, refl, sym, ap, _∙_, subst}
 use mathlib.Core.List.{List, _++_}
 use lib.ListN.{length, drop}
 use lib.Dec.{lit<}
@@ -11,7 +11,7 @@ use Rattle.laws.specs.UpTo.{listUpTo}
 use Rattle.laws.specs.Num.{num, num-of-zeros}
 use Rattle.graph.specs.declared.Graph.{Graph}
 use Rattle.rows.specs.Rows.{startAt, entryIn}
-use Rattle.pairs.specs.Pairs.{Pair, pairCount, number, pairOf}
+use Rattle.pairs.specs.Pairs.{pairCount, number}
 use Rattle.graph.specs.Counts.{entryAt}
 use Rattle.pairs.proofs.PairLaws.{number-first, number-along, number-next-row, number-low, number-high, pairOf-number}
 use Rattle.record.specs.Layout.{startPlace, entryPlace, bitCount, byteCount, begin, cell}

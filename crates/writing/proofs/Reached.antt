@@ -1,8 +1,7 @@
 -- Laws of how far the writing of a record has come.
-use Prim.Native.Nat.{ℕ, zero, suc, _+_, _-_, _*_, _/_, _%_, _^_, _≤_, _<_}
+use Prim.Native.Nat.{ℕ, _+_, _-_, _*_, _/_, _%_, _^_, _≤_, _<_}
 use native.Mathlib.Omega.{arith}
-use native.Mathlib.Nat.{lt-of-lt-of-le, mod-eq-of-lt, mul-comm, pow-suc}
-use native.Mathlib.Numerals.{add-one}
+use native.Mathlib.Nat.{lt-of-lt-of-le, mod-eq-of-lt}
 use mathlib.Core.Path.{_≡_, refl, sym, ap, ap₂, _∙_}
 use mathlib.Core.Bool.{false}
 use mathlib.Core.List.{List, _++_}
@@ -15,19 +14,11 @@ use Rattle.laws.specs.TestLaws.{pick-true, pick-false}
 use Rattle.laws.specs.UpTo.{listUpTo}
 use Rattle.laws.specs.UpToLaws.{list-length}
 use lib.Seq.{drop-append-add, drop-drop}
-use Rattle.laws.specs.Num.{num, num-append, num-below, num-of-zeros}
+use Rattle.laws.specs.Num.{num, num-append, num-below}
 use Rattle.graph.specs.declared.Graph.{Graph}
-use Rattle.rows.specs.Rows.{startAt, entryIn}
-use Rattle.graph.specs.Graph.{entry}
-use Rattle.pairs.specs.Pairs.{pairCount, number, pairOf, pair, Pair}
-use Rattle.graph.specs.Counts.{entryAt}
-use Rattle.pairs.proofs.PairLaws.{number-first, number-along, number-next-row, number-low, number-high, pairOf-number}
-use Rattle.record.specs.Layout.{startPlace, entryPlace, bitCount, byteCount}
-use Rattle.record.specs.Reading.{orderIn, numberedIn}
-use Rattle.record.specs.Writing.{recordBit, recordByte, recordOf}
+use Rattle.record.specs.Writing.{recordBit, recordByte}
 use Rattle.record.proofs.WriteLaws.{record-bit-small}
-use Rattle.writing.proofs.Buffer.{filled-starts, filled-turns}
-use Rattle.record.proofs.RecordBits.{order-held, start-held, entry-held, pad-held}
+use Rattle.writing.proofs.Buffer.{filled-turns}
 use Rattle.writing.specs.declared.pen.Pen.{Pen}
 use Rattle.writing.specs.Reached.{Reached}
 use Rattle.writing.specs.Pushed.{IsPushed, total, among}

@@ -1,6 +1,6 @@
 use borrow.Author.Needs.{needs}
-use Prim.Native.Nat.{_+_, _-_, _≤_, _<_}
-use Rattle.record.specs.Layout.{begin, cell}
+use Prim.Native.Nat.{_+_, _-_, _≤_}
+use Rattle.record.specs.Layout.{begin}
 use Rattle.writing.specs.Reached.{Reached}
 use Rattle.writing.proofs.PutLaws.{start-room, start-pushed, starts-done}
 use Rattle.writing.proofs.pen.put_starts.Statement.{statement}
