@@ -14,6 +14,7 @@ ghost use Rattle.turns.specs.Turns.{Within};
 ghost use Rattle.clause.specs.Clauses.{reached, kindBy, kindAt, writtenFor, writtenAlong, FirstIn, Before, Firsts, Sources, Ahead, Wrote};
 use arrangements::composed::inverse_of;
 use arrangements::places::vertex_of;
+use pairs::number_of;
 use rows::entries::entry_in;
 use rows::words::lowest;
 use rows::words::without;
@@ -21,14 +22,6 @@ use turns::path::weight_of;
 use turns::walked::edges_of;
 use turns::walked::is_own;
 use turns::walked::marks_of;
-
-// The number of the pair (i, j).
-fn number_of(n: u32, i: u32, j: u32) -> u32
-    requires { ⌜ (n ≤ 32) × (1 ≤ i) × (i ≤ j) × (j ≤ n) ⌝ }
-    ensures { λ r. ⌜ r ≡ number n i j ⌝ }
-{
-    (i - 1) * (2 * n - i) / 2 + (j - i)
-}
 
 // ---- the kind of a pair
 

@@ -1,6 +1,5 @@
 -- What the code's masks come to.
-use Prim.Native.Nat.{ℕ, _+_, _-_, _*_, _/_, _%_, _^_, _≤_, _<_}
-use native.Mathlib.Nat.{one-mul}
+use Prim.Native.Nat.{ℕ, _+_, _-_, _/_, _%_, _^_, _≤_, _<_}
 use native.Mathlib.Omega.{arith}
 use mathlib.Core.Path.{_≡_, refl, sym, ap, _∙_}
 use mathlib.Core.List.{List}
@@ -10,12 +9,8 @@ use Rattle.laws.specs.Test.{pick}
 use Rattle.laws.specs.UpToLaws.{sum-longer, word-same}
 use Rattle.laws.specs.Loops.{sum-turns}
 use Rattle.rows.specs.Rows.{blockOf, startAt, placed}
-use Rattle.rows.proofs.CodeWords.{shifted}
 use Rattle.rows.proofs.Filled.{placed-turns}
 use Rattle.exploring.specs.Masks.{sameBlock, blockMask, MaskOf, Fresh}
-
-pub power-is : (k : ℕ) → k < 32 → 1 * 2 ^ k % 2 ^ 32 ≡ 2 ^ k
-power-is k h = shifted 1 k (omega arith) h ∙ one-mul (2 ^ k)
 
 -- ---- the masks of places, each from the one before
 

@@ -13,7 +13,7 @@ use lib.Bits.{bitAnd, and-zero-r}
 use lib.Dec.{eqb}
 use borrow.Author.Tests.{eqb-true, eqb-false}
 use Rattle.laws.specs.Test.{both, pick}
-use Rattle.laws.specs.TestLaws.{both-first, second-fails, holds, pick-true, pick-false}
+use Rattle.laws.specs.TestLaws.{both-first, second-fails, pick-true, pick-false}
 use Rattle.laws.specs.Bit.{bit}
 use Rattle.laws.specs.BitLaws.{bit-of-zero}
 use Rattle.laws.specs.UpToLaws.{word-below, word-bit}
@@ -130,17 +130,9 @@ module _ (n : ℕ) (block : ℕ → ℕ) where
     pub used-fits : (used : ℕ) → used ≡ usedMask b → used < 2 ^ n
     used-fits used e = rw e used-below
 
-    -- an absent vertex has bit 0
-    pub absent-bit : (v : ℕ) → 1 ≤ v → absent b v ≡ true → bit (usedMask b) (v - 1) ≡ 0
-    absent-bit v l e = used-bit v l ∙ pick-true (absent b v) 0 1 e
-
     -- one in use has bit 1
     pub present-bit : (v : ℕ) → 1 ≤ v → absent b v ≡ false → bit (usedMask b) (v - 1) ≡ 1
     present-bit v l e = used-bit v l ∙ pick-false (absent b v) 0 1 e
-
-    -- and bit 0 tells that the vertex is absent
-    pub bit-absent : (v : ℕ) → 1 ≤ v → bit (usedMask b) (v - 1) ≡ 0 → absent b v ≡ true
-    bit-absent v l e = holds (absent b v) (λ q. absurd (omega (arith, present-bit v l q)))
 
 -- ---- the vertices of a block
 

@@ -244,14 +244,6 @@ module _ (g : Graph) (w : WellFormed g) where
   pub non-edges-left : pairsWith g 0 ≡ pairCount (g .order) - pairsWith g 1 - pairsWith g 2
   non-edges-left = omega (arith, all-counted)
 
-  -- no sum of ones of up to 32 rows is above 1024
-  pub edges-small : (k : ℕ) → k ≤ 32 → sumUpTo (rowOnes (g .edges)) k ≤ 1024
-  edges-small k h = ones-small (g .order) (g .edges) (edges-marks g w) (w .order-high) k h
-
-  -- of edges or of unknowns
-  pub unknowns-small : (k : ℕ) → k ≤ 32 → sumUpTo (rowOnes (g .unknowns)) k ≤ 1024
-  unknowns-small k h = ones-small (g .order) (g .unknowns) (unknowns-marks g w) (w .order-high) k h
-
   -- the edges at vertex v are the ones of its row
   pub edgesAt-ones : (v : ℕ) → 1 ≤ v → v ≤ g .order → edgesAt g v ≡ rowOnes (g .edges) v
   unfolding edgesAt touching

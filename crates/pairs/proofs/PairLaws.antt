@@ -5,8 +5,8 @@ use native.Mathlib.Omega.{arith}
 use mathlib.Core.Path.{_≡_, refl, sym, ap, ap₂, subst, _∙_}
 use mathlib.Core.Logic.{_⊎_, inl, inr, ⊎-elim}
 use mathlib.Core.List.{List, _∷_, _++_, map, append-assoc, List·Memᴰ, List·Memᴰ·head, List·Memᴰ·tail, List·Memᴰ·cases-cons, List·Memᴰ·not-nil, List·Memᴰ·append-cases, Memᴰ·append-left, Memᴰ·append-right}
-use lib.ListN.{length, getD, take, drop, length-append, length-drop, List·getD-map}
-use lib.Seq.{take-at, drop-append-le, drop-append-seam, drop-drop, getD-drop, getD-append-seam}
+use lib.ListN.{length, getD, drop, length-append, length-drop, List·getD-map}
+use lib.Seq.{drop-append-le, drop-append-seam, drop-drop, getD-drop, getD-append-seam}
 use Rattle.laws.specs.UpTo.{listUpTo}
 use Rattle.laws.specs.ListLaws.{map-append, getD-mem, mem-split, NoRepeats, no-repeats-of-map, countUp, countUp-append, countUp-getD, countUp-upTo, countUp-no-repeats}
 use Rattle.pairs.specs.Pairs.{Pair, pair, alongRow, fromRow, pairs, pairCount, number, pairOf}
@@ -352,9 +352,3 @@ row-one-first n k l h =
     let b : 2 + (k - 1) ≡ suc k = omega arith in
     pairs-row-one n ∙ ap (λ (r : List Pair). r ++ fromRow 2 (n - 2)) (ap (alongRow 1 2) a ∙ alongRow-append 1 2 (k - 1) (n - k) ∙ ap (λ (x : ℕ). alongRow 1 2 (k - 1) ++ alongRow 1 x (n - k)) b)
     ∙ append-assoc (alongRow 1 2 (k - 1)) (alongRow 1 (suc k) (n - k)) (fromRow 2 (n - 2))
-
--- and are the first k - 1 of all
-pub row-one-take : (n k : ℕ) → 1 ≤ k → k ≤ n → take (k - 1) (pairs n) ≡ alongRow 1 2 (k - 1)
-row-one-take n k l h =
-    ap (take (k - 1)) (row-one-first n k l h)
-    ∙ take-at (alongRow 1 2 (k - 1)) (alongRow 1 (suc k) (n - k) ++ fromRow 2 (n - 2)) (k - 1) (alongRow-length 1 2 (k - 1))

@@ -25,7 +25,7 @@ use Rattle.laws.specs.UpToLaws.{all-at, word-below, word-bit, word-same}
 use Rattle.laws.specs.Num.{num, num-below, num-bit}
 use Rattle.laws.specs.First.{firstUpTo, first-none, none-first, first-stop}
 use Rattle.pairs.specs.Pairs.{number, pairCount}
-use Rattle.pairs.proofs.PairLaws.{number-high, number-rows, number-end}
+use Rattle.pairs.proofs.PairLaws.{number-low, number-high, number-rows, number-end}
 use Rattle.rows.specs.Rows.{placed, mirrored}
 use Rattle.rows.specs.Stage.{above, inBothHalves}
 use Rattle.rows.proofs.Filled.{placed-turns, placed-done}
@@ -373,8 +373,9 @@ module _ (s : List ℕ) (n i x : ℕ) (is-x : x ≡ num (bitOf s) (cell n i (i +
       refused-fits = record { fits = omega (arith, refused-high) }
 
       -- its pair is the first that is refused
-      pub row-refuses : (m : ℕ) → m ≡ number n i (t + 1) → 1 ≤ m → RowRefused (bitOf s) n i m
-      row-refuses m is-m some-m =
+      pub row-refuses : (m : ℕ) → m ≡ number n i (t + 1) → RowRefused (bitOf s) n i m
+      row-refuses m is-m =
+          let some-m : 1 ≤ m = rw is-m (number-low n i (t + 1) refused-low) in
           record {
             clear = λ e. absurd (omega arith);
             first = λ d before. is-m ∙ first-found (bitOf s) (bit-small s) n i low high short (bitAnd (line .unknowns) (line .edges)) t is-word some is-t before;

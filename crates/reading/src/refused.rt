@@ -6,7 +6,7 @@ ghost use Rattle.record.specs.Reading.{refusedIn};
 ghost use Rattle.reading.specs.Lines.{RowRefused};
 use crate::lines::entries_of;
 use crate::lines::line_from;
-use record::layout::number_of;
+use pairs::number_of;
 use rows::words::lowest;
 
 // The number of the first pair of row i whose entry is refused, or 0.

@@ -5,8 +5,6 @@ use mathlib.Core.Bool.{Bool, true, false}
 use native.Mathlib.Nat.{mul-le-mul}
 use native.Mathlib.Omega.{arith}
 use borrow.Author.Tests.{le-leb, lt-leb}
-use mir.Val.{Fits}
-use mir.Syntax.{w32}
 use Rattle.laws.specs.Test.{both, unless}
 use Rattle.graph.specs.WellFormed.{orderFits}
 use Rattle.pairs.specs.Pairs.{pairCount}
@@ -15,14 +13,6 @@ use Rattle.pairs.proofs.PairLaws.{pairCount-suc}
 use Rattle.record.specs.declared.Extent.{Extent}
 use Rattle.record.specs.Layout.{cell, bitCount, byteCount}
 use Rattle.record.specs.Answers.{extent, sizeAnswer}
-
--- two small numbers have a small product
-pub product-small : (a b : ℕ) → a ≤ 64 → b ≤ 64 → a * b ≤ 4096
-product-small a b h k = mul-le-mul h k
-
--- which fits
-pub product-fits : (a b : ℕ) → a ≤ 64 → b ≤ 64 → Fits w32 (a * b)
-product-fits a b h k = record { fits = omega (arith, product-small a b h k) }
 
 -- what the code sums up
 pub bits-counted : (n p : ℕ) → p ≡ pairCount n → 6 + (n - 1) + 2 * p ≡ bitCount n

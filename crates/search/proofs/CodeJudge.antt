@@ -1,11 +1,10 @@
 -- What the code of judging comes to.
-use Prim.Native.Nat.{ℕ, zero, suc, _-_, _*_, _/_, _^_, _≤_, _<_}
-use native.Mathlib.Nat.{lt-of-le-of-lt, mul-le-mul, div-le-self}
+use Prim.Native.Nat.{ℕ, zero, suc, _-_, _≤_}
 use native.Mathlib.Omega.{arith}
 use mathlib.Core.Path.{_≡_, refl, sym, ap, _∙_}
 use mathlib.Core.Bool.{Bool, true, false}
 use mathlib.Core.List.{List, [], _∷_, _++_}
-use lib.Dec.{leb, eqb, lit<}
+use lib.Dec.{leb, eqb}
 use lib.IntN.{ℤ}
 use lib.ListN.{length, take, drop, replicate}
 use lib.Seq.{length-take-le}
@@ -40,12 +39,6 @@ use Rattle.judging.proofs.Arrangements.{padded-permitted}
 use Rattle.turns.proofs.TurnCodes.{turn-codes}
 use Rattle.judging.proofs.Judgements.{of-won}
 use Rattle.judging.proofs.Certificates.{certificate-walk}
-
-pub product-fits : (n : ℕ) → n ≤ 32 → n * (n - 1) < 2 ^ 32
-product-fits n h = lt-of-le-of-lt (mul-le-mul {n₁ = n} {m₁ = n - 1} {n₂ = 32} {m₂ = 32} h (omega arith)) (lit< tt)
-
-pub pairs-fit : (n : ℕ) → n ≤ 32 → n * (n - 1) / 2 < 2 ^ 64
-pairs-fit n h = lt-of-le-of-lt (div-le-self (n * (n - 1)) 2) (lt-of-le-of-lt (mul-le-mul {n₁ = n} {m₁ = n - 1} {n₂ = 32} {m₂ = 32} h (omega arith)) (lit< tt))
 
 -- ---- the pair at which a walk is won is the first that does not go on
 
@@ -173,6 +166,9 @@ unfolding smaller atStart
 smaller-buffer g p steps r before after e h = rw e h
 
 -- ---- the refusals
+
+pub room-is : (n pairs room : ℕ) → pairs ≡ pairCount n → leb pairs room ≡ leb (pairCount n) room
+room-is n pairs room e = ap (λ (x : ℕ). leb x room) e
 
 pub room-known : (n room : ℕ) (b : Bool) → b ≡ leb (pairCount n) room → b ≡ true → pairCount n ≤ room
 room-known n room b e h = leb-true (pairCount n) room (sym e ∙ h)

@@ -23,6 +23,7 @@ use exploring::masks::block_masks;
 use graph::Graph;
 use judging::Judged;
 use judging::Verdict;
+use pairs::pair_count;
 
 // A verdict with nothing beside it.
 fn bare(verdict: Verdict) -> Judged
@@ -40,8 +41,7 @@ fn has_room(n: u32, room: usize) -> bool
     requires { ⌜ (1 ≤ n) × (n ≤ 32) ⌝ }
     ensures { λ r. ⌜ r ≡ leb (pairCount n) room ⌝ }
 {
-    let pairs = (n * (n - 1) / 2) as usize;
-    pairs <= room
+    pair_count(n) as usize <= room
 }
 
 // The answer where the path's first places are the first won beginning: its certificate, and the clause written.

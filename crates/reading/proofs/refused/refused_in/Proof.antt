@@ -1,3 +1,4 @@
+use native.Mathlib.Nat.{le-of-lt}
 use borrow.Author.Needs.{needs}
 use Rattle.reading.proofs.LineLaws.{words-clear, line-clear, refused-low, refused-high, refused-fits, row-refuses}
 use Rattle.reading.proofs.refused.refused_in.Statement.{statement}
@@ -22,7 +23,7 @@ add-number-of : tie.Need-add-number-of
 add-number-of c = search (refused-fits, needs)
 
 number-of-requires : tie.Need-number-of-requires
-number-of-requires c κs = let e = c .before .before .before .before .before in (search needs, refused-low _ _ _ _ (e .entries-of .ensures) (search needs) (search needs) (search needs) _ (c .before .before .before .line-from .ensures) _ (c .before .if2 .left) (c .lowest .ensures), search (refused-high, needs), search needs)
+number-of-requires c κs = let e = c .before .before .before .before .before in (search needs, le-of-lt (refused-low _ _ _ _ (e .entries-of .ensures) (search needs) (search needs) (search needs) _ (c .before .before .before .line-from .ensures) _ (c .before .if2 .left) (c .lowest .ensures)), search (refused-high, needs), search needs)
 
 returns-3 : tie.Need-returns-3
 returns-3 c = search (row-refuses, needs)

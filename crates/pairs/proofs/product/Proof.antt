@@ -1,7 +1,7 @@
 use borrow.Author.Needs.{needs}
-use Rattle.record.proofs.SizeLaws.{product-small, product-fits}
-use Rattle.record.proofs.layout.product.Statement.{statement}
-use Rattle.record.proofs.layout.product.Tie as tie
+use Rattle.pairs.proofs.Products.{product-small, product-fits}
+use Rattle.pairs.proofs.product.Statement.{statement}
+use Rattle.pairs.proofs.product.Tie as tie
 
 mul-result : tie.Need-mul-result
 mul-result c = search (product-fits, needs)
