@@ -1,4 +1,4 @@
--- The answer of judging a graph value in each of its cases, as the code makes it.
+-- A judgement in each of its cases, as the code tells it.
 use Prim.Native.Nat.{ℕ, _+_, _<_}
 use native.Mathlib.Omega.{arith}
 use mathlib.Core.Path.{_≡_, ap, _∙_}
@@ -15,17 +15,21 @@ use Rattle.judging.specs.declared.Judged.{Judged}
 use Rattle.judging.specs.Answer.{told, judgeAnswer, judgeBuffer}
 use Rattle.judging.proofs.Buffer.{zeros-beside}
 use Rattle.cafruzek.specs.Packing.{fields, refusal, lowTold, packed}
-use Rattle.cafruzek.specs.Answers.{arrangedBy, arrangedAfter}
+use Rattle.cafruzek.specs.Answers.{arrangedBy, arrangedAfter, Judgement}
 use Rattle.cafruzek.proofs.Bounds.{Bounded, judged-bounded}
 
-module _ (g : Graph) (budget room : ℕ) (a : Judged) (is-a : a ≡ judgeAnswer g budget room) where
+-- what judging a graph value answers is a judgement
+pub is-judgement : (g : Graph) (budget room : ℕ) (a : Judged) → a ≡ judgeAnswer g budget room → Judgement a
+is-judgement g budget room a e = record { graph = g; budget = budget; room = room; is-answer = e }
+
+module _ (a : Judged) (j : Judgement a) where
   -- what is told is bounded
-  bounded : Bounded budget a
-  bounded = rw is-a (judged-bounded g budget room)
+  bounded : Bounded (j .budget) a
+  bounded = rw (j .is-answer) (judged-bounded (j .graph) (j .budget) (j .room))
 
   -- without "smaller" no literal is written
   none-written : told (a .verdict) .code ≢ 1 → a .literals ≡ 0
-  none-written ne = ap (λ (x : Judged). x .literals) is-a ∙ zeros-beside g budget room (rw is-a at ne) .1
+  none-written ne = ap (λ (x : Judged). x .literals) (j .is-answer) ∙ zeros-beside (j .graph) (j .budget) (j .room) (rw (j .is-answer) at ne) .1
 
   -- how many are written fits 9 bits
   pub literals-fit : a .literals < 512
@@ -43,40 +47,40 @@ module _ (g : Graph) (budget room : ℕ) (a : Judged) (is-a : a ≡ judgeAnswer 
     smaller-column = omega (arith, rw v at (bounded .column-small))
 
     -- the number with the pair, the steps and the literals
-    pub smaller-packed : (x : ℕ) → x ≡ fields steps row column (a .literals) 1 → x ≡ packed (judgeAnswer g budget room)
+    pub smaller-packed : (x : ℕ) → x ≡ fields steps row column (a .literals) 1 → x ≡ packed a
     unfolding packed told lowTold pick
-    smaller-packed x e = rw (e, ← is-a, v)
+    smaller-packed x e = rw (e, v)
 
     -- and the certificate in the lent arrangement
-    pub smaller-arranged : (lent : List ℕ) → a .arrangement ≡ arrangedAfter (judgeAnswer g budget room) lent
+    pub smaller-arranged : (lent : List ℕ) → a .arrangement ≡ arrangedAfter a lent
     unfolding arrangedAfter arrangedBy
-    smaller-arranged lent = rw (← is-a, v)
+    smaller-arranged lent = rw v
 
   module _ (steps : ℕ) (v : a .verdict ≡ Nothing steps) where
     -- none: the number with the steps
-    pub none-packed : (x : ℕ) → x ≡ fields steps 0 0 0 0 → x ≡ packed (judgeAnswer g budget room)
+    pub none-packed : (x : ℕ) → x ≡ fields steps 0 0 0 0 → x ≡ packed a
     unfolding packed told lowTold pick
     none-packed x e =
         let z : a .literals ≡ 0 = none-written (rw v (λ q. omega arith)) in
-        rw (e, ← is-a, v, z)
+        rw (e, v, z)
 
     -- and the arrangement as it was
-    pub none-arranged : (lent : List ℕ) → lent ≡ arrangedAfter (judgeAnswer g budget room) lent
+    pub none-arranged : (lent : List ℕ) → lent ≡ arrangedAfter a lent
     unfolding arrangedAfter arrangedBy
-    none-arranged lent = rw (← is-a, v)
+    none-arranged lent = rw v
 
   module _ (steps : ℕ) (v : a .verdict ≡ Cut steps) where
     -- cut: the number with the budget
-    pub cut-packed : (x : ℕ) → x ≡ fields steps 0 0 0 2 → x ≡ packed (judgeAnswer g budget room)
+    pub cut-packed : (x : ℕ) → x ≡ fields steps 0 0 0 2 → x ≡ packed a
     unfolding packed told lowTold pick
     cut-packed x e =
         let z : a .literals ≡ 0 = none-written (rw v (λ q. omega arith)) in
-        rw (e, ← is-a, v, z)
+        rw (e, v, z)
 
     -- and the arrangement as it was
-    pub cut-arranged : (lent : List ℕ) → lent ≡ arrangedAfter (judgeAnswer g budget room) lent
+    pub cut-arranged : (lent : List ℕ) → lent ≡ arrangedAfter a lent
     unfolding arrangedAfter arrangedBy
-    cut-arranged lent = rw (← is-a, v)
+    cut-arranged lent = rw v
 
   module _ (number place : ℕ) (v : a .verdict ≡ Refused number place) where
     -- refused: by a small number
@@ -85,29 +89,30 @@ module _ (g : Graph) (budget room : ℕ) (a : Judged) (is-a : a ≡ judgeAnswer 
     refusal-number = omega (arith, rw v at (bounded .code-small))
 
     -- the number with the refusal and its place
-    pub refusal-packed : (x : ℕ) → x ≡ refusal number place → x ≡ packed (judgeAnswer g budget room)
+    pub refusal-packed : (x : ℕ) → x ≡ refusal number place → x ≡ packed a
     unfolding packed told lowTold pick refusal
     refusal-packed x e =
         let z : a .literals ≡ 0 = none-written (rw v (λ q. omega arith)) in
         let t : ltb (128 + number) 128 ≡ false = le-ltb (128 + number) 128 (omega arith) in
-        rw (e, ← is-a, v, z, t)
+        rw (e, v, z, t)
 
     -- and the arrangement as it was
-    pub refusal-arranged : (lent : List ℕ) → lent ≡ arrangedAfter (judgeAnswer g budget room) lent
+    pub refusal-arranged : (lent : List ℕ) → lent ≡ arrangedAfter a lent
     unfolding arrangedAfter arrangedBy
-    refusal-arranged lent = rw (← is-a, v)
+    refusal-arranged lent = rw v
 
--- ---- the graph value h that is g, made of rows
+-- ---- the answer a for the graph value h that is g, made of rows
 
 module _ (g h : Graph) (budget : ℕ) (same : h ≡ g) where
-  -- the number
-  pub rows-packed : (room x : ℕ) → x ≡ packed (judgeAnswer h budget room) → x ≡ packed (judgeAnswer g budget room)
-  rows-packed room x e = rw same at e
-
   -- the literals
   pub rows-buffer : (buffer after : List ℤ) → after ≡ judgeBuffer h budget buffer → after ≡ judgeBuffer g budget buffer
   rows-buffer buffer after e = rw same at e
 
-  -- the arrangement
-  pub rows-arranged : (room : ℕ) (lent after : List ℕ) → after ≡ arrangedAfter (judgeAnswer h budget room) lent → after ≡ arrangedAfter (judgeAnswer g budget room) lent
-  rows-arranged room lent after e = rw same at e
+  module _ (room : ℕ) (a : Judged) (is-a : a ≡ judgeAnswer h budget room) where
+    -- the number
+    pub rows-packed : (x : ℕ) → x ≡ packed a → x ≡ packed (judgeAnswer g budget room)
+    rows-packed x e = rw (is-a, same) at e
+
+    -- the arrangement
+    pub rows-arranged : (lent after : List ℕ) → after ≡ arrangedAfter a lent → after ≡ arrangedAfter (judgeAnswer g budget room) lent
+    rows-arranged lent after e = rw (is-a, same) at e

@@ -2,7 +2,7 @@
 use Prim.Native.Nat.{ℕ, _+_, _≤_, _<_}
 use native.Mathlib.Omega.{arith}
 use mathlib.Core.Path.{_≡_, ap, _∙_}
-use mathlib.Core.Bool.{false}
+use mathlib.Core.Bool.{true, false}
 use mathlib.Core.List.{List}
 use borrow.Author.Tests.{le-ltb, eq-eqb, ne-eqb}
 use lib.IntN.{ℤ}
@@ -10,10 +10,14 @@ use lib.ListN.{length}
 use lib.Dec.{ltb}
 use Rattle.laws.specs.Test.{pick}
 use Rattle.graph.specs.declared.Graph.{Graph}
+use Rattle.graph.specs.WellFormed.{wellFormed}
+use Rattle.graph.proofs.Formed.{tested}
 use Rattle.record.specs.declared.Extent.{Extent}
 use Rattle.record.specs.declared.Record.{Record}
 use Rattle.record.specs.declared.Written.{Written}
 use Rattle.record.specs.Answers.{recordAt, readAnswer, writeAnswer, bufferAfter}
+use Rattle.record.proofs.ReadWritten.{read-formed}
+use Rattle.judging.specs.declared.Judged.{Judged}
 use Rattle.judging.specs.Answer.{told, without, judgeAnswer, judgeBuffer}
 use Rattle.cafruzek.specs.Packing.{refusal, lowTold, packed, packedExtent, packedWritten}
 use Rattle.cafruzek.specs.Answers.{arrangedBy, arrangedAfter, judgeRecord, judgeRecordBuffer}
@@ -23,6 +27,10 @@ module _ (s : List ℕ) (r : Record) (is-r : r ≡ readAnswer s) where
   -- reading refuses by a small number
   pub read-number : r .refusal < 128
   read-number = omega (arith, ap (λ (x : Record). x .refusal) is-r, read-small s)
+
+  -- and accepts only a well-formed graph
+  pub read-checked : r .refusal ≡ 0 → wellFormed (r .graph) ≡ true
+  read-checked e = rw is-r (tested (readAnswer s .graph) (read-formed s (rw is-r at e)))
 
   module _ (budget : ℕ) (buffer : List ℤ) (lent : List ℕ) where
     -- ---- a refused reading
@@ -48,21 +56,24 @@ module _ (s : List ℕ) (r : Record) (is-r : r ≡ readAnswer s) where
     -- ---- a graph that was read is judged
 
     module _ (e : r .refusal ≡ 0) where
-      -- its answer is the answer
-      pub read-packed : (x : ℕ) → x ≡ packed (judgeAnswer (r .graph) budget (length buffer)) → x ≡ packed (judgeRecord s budget (length buffer))
-      unfolding judgeRecord pick
-      read-packed x q = rw (q, ← is-r, eq-eqb (r .refusal) 0 e)
-
       -- its clause is written
       pub read-buffer : (after : List ℤ) → after ≡ judgeBuffer (r .graph) budget buffer → after ≡ judgeRecordBuffer s budget buffer
       unfolding judgeRecordBuffer pick
       read-buffer after q = rw (q, ← is-r, eq-eqb (r .refusal) 0 e)
 
-      -- and its certificate
-      pub read-arranged : (after : List ℕ) → after ≡ arrangedAfter (judgeAnswer (r .graph) budget (length buffer)) lent
-          → after ≡ arrangedAfter (judgeRecord s budget (length buffer)) lent
-      unfolding judgeRecord pick
-      read-arranged after q = rw (q, ← is-r, eq-eqb (r .refusal) 0 e)
+      module _ (a : Judged) (is-a : a ≡ judgeAnswer (r .graph) budget (length buffer)) where
+        -- its answer is the answer
+        read-judged : a ≡ judgeRecord s budget (length buffer)
+        unfolding judgeRecord pick
+        read-judged = rw (is-a, ← is-r, eq-eqb (r .refusal) 0 e)
+
+        -- which is told
+        pub read-packed : (x : ℕ) → x ≡ packed a → x ≡ packed (judgeRecord s budget (length buffer))
+        read-packed x q = rw read-judged at q
+
+        -- with its certificate
+        pub read-arranged : (after : List ℕ) → after ≡ arrangedAfter a lent → after ≡ arrangedAfter (judgeRecord s budget (length buffer)) lent
+        read-arranged after q = rw read-judged at q
 
 -- ---- numbers of bytes
 

@@ -1,5 +1,6 @@
 -- The full answer of each function, and what the lent buffers hold afterwards.
 use Prim.Native.Nat.{ℕ}
+use mathlib.Core.Path.{_≡_}
 use mathlib.Core.List.{List}
 use lib.IntN.{ℤ}
 use lib.Dec.{eqb}
@@ -22,6 +23,13 @@ arrangedBy (Refused number place) p lent = lent
 -- what the arrangement holds after a judgement
 unfoldable pub arrangedAfter : Judged → List ℕ → List ℕ
 arrangedAfter a lent = arrangedBy (a .verdict) (a .arrangement) lent
+
+-- what judging some graph value answers
+pub record Judgement (a : Judged) : Type 0 where
+  pub graph : Graph
+  pub budget : ℕ
+  pub room : ℕ
+  pub is-answer : a ≡ judgeAnswer graph budget room
 
 -- ---- rows
 

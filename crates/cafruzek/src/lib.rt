@@ -3,17 +3,19 @@
 // standing pair; 44..52 how many literals were written; 56..63 the code: 0 none, 1 smaller, 2 cut, 128 and the number of a
 // refusal.
 use graph::Graph;
+use judging::Judged;
 use judging::Verdict;
 use packing::counted;
 use packing::joined;
 use packing::refused;
 use search::judge;
+use search::judge_checked;
 ghost use mathlib.Core.Path.{_≡_};
 ghost use lib.ListN.{length};
 ghost use Rattle.record.specs.Answers.{recordAt, writeAnswer, bufferAfter};
 ghost use Rattle.judging.specs.Answer.{judgeAnswer, judgeBuffer};
 ghost use Rattle.cafruzek.specs.Packing.{packed, packedExtent, packedWritten};
-ghost use Rattle.cafruzek.specs.Answers.{arrangedAfter, judgeRecord, judgeRecordBuffer};
+ghost use Rattle.cafruzek.specs.Answers.{arrangedAfter, Judgement, judgeRecord, judgeRecordBuffer};
 ghost use Rattle.graph.specs.Graph.{graphOf};
 
 mod packing;
@@ -32,16 +34,11 @@ fn graph_of<'a, 'b>(order: u32, edges: &'a [u32; 32], unknowns: &'b [u32; 32], s
     }
 }
 
-// Judges a graph value.
-fn judge_graph<'a, 'b>(
-    graph: Graph,
-    budget: u32,
-    literals: &'a mut [i32],
-    arrangement: &'b mut [u8; 32],
-) -> u64
-    ensures { λ r. ⌜ (r ≡ packed (judgeAnswer graph budget (length (now (literals .entry))))) × (now (literals .exit) ≡ judgeBuffer graph budget (now (literals .entry))) × (now (arrangement .exit) ≡ arrangedAfter (judgeAnswer graph budget (length (now (literals .entry)))) (now (arrangement .entry))) ⌝ }
+// Tells a judgement: the number, and the certificate of "smaller" in the arrangement.
+fn tell(answer: Judged, arrangement: &mut [u8; 32]) -> u64
+    requires { ⌜ Judgement answer ⌝ }
+    ensures { λ r. ⌜ (r ≡ packed answer) × (now (arrangement .exit) ≡ arrangedAfter answer (now (arrangement .entry))) ⌝ }
 {
-    let answer = judge(graph, budget, literals);
     let verdict = answer.verdict;
     match verdict {
         Verdict::Smaller { row, column, steps } => {
@@ -72,7 +69,8 @@ pub extern "C" fn cafruzek_judge_record<'a, 'b, 'c>(
         return refused(found.refusal, found.place);
     }
     let graph = found.graph;
-    judge_graph(graph, budget, literals, arrangement)
+    let answer = judge_checked(graph, budget, literals);
+    tell(answer, arrangement)
 }
 
 // Judges the graph value of these rows. It writes as cafruzek_judge_record does.
@@ -88,12 +86,9 @@ pub extern "C" fn cafruzek_judge_rows<'a, 'b, 'c, 'd>(
 ) -> u64
     ensures { λ r. ⌜ (r ≡ packed (judgeAnswer (graphOf order (now (edges .entry)) (now (unknowns .entry)) starts) budget (length (now (literals .entry))))) × (now (literals .exit) ≡ judgeBuffer (graphOf order (now (edges .entry)) (now (unknowns .entry)) starts) budget (now (literals .entry))) × (now (arrangement .exit) ≡ arrangedAfter (judgeAnswer (graphOf order (now (edges .entry)) (now (unknowns .entry)) starts) budget (length (now (literals .entry)))) (now (arrangement .entry))) ⌝ }
 {
-    judge_graph(
-        graph_of(order, edges, unknowns, starts),
-        budget,
-        literals,
-        arrangement,
-    )
+    let graph = graph_of(order, edges, unknowns, starts);
+    let answer = judge(graph, budget, literals);
+    tell(answer, arrangement)
 }
 
 // Answers how many bytes the record that the bytes begin with takes, or the refusal, as reading refuses.

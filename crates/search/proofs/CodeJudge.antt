@@ -176,7 +176,7 @@ room-known n room b e h = leb-true (pairCount n) room (sym e ∙ h)
 pub formed-known : (g : Graph) (b : Bool) → b ≡ wellFormed g → b ≡ true → wellFormed g ≡ true
 formed-known g b e h = sym e ∙ h
 
-module _ (g : Graph) (budget : ℕ) (buffer : List ℤ) (b : Bool) (e : b ≡ wellFormed g) where
+module _ (g : Graph) (budget : ℕ) (buffer : List ℤ) where
   Answered : Judged → List ℤ → Type 0
   Answered r after = (r ≡ judgeAnswer g budget (length buffer)) × (after ≡ judgeBuffer g budget buffer)
 
@@ -185,27 +185,21 @@ module _ (g : Graph) (budget : ℕ) (buffer : List ℤ) (b : Bool) (e : b ≡ we
   unfolding Answered judgeBuffer
   by-answer r after q h = (q, h ∙ ap (λ (x : Judged). atStart (x .verdict) (clauseOf g (x .arrangement)) buffer) q)
 
-  pub answers-malformed : (r : Judged) → b ≡ false → r ≡ without (Refused 8 0) → (r ≡ judgeAnswer g budget (length buffer)) × (buffer ≡ judgeBuffer g budget buffer)
+  pub answers-malformed : (b : Bool) → b ≡ wellFormed g → (r : Judged) → b ≡ false → r ≡ without (Refused 8 0) → (r ≡ judgeAnswer g budget (length buffer)) × (buffer ≡ judgeBuffer g budget buffer)
   unfolding Answered judgeAnswer
-  answers-malformed r h q = by-answer r buffer (refused b (wellFormed g) r _ _ e h q) (refused-buffer g r 8 0 buffer q)
+  answers-malformed b e r h q = by-answer r buffer (refused b (wellFormed g) r _ _ e h q) (refused-buffer g r 8 0 buffer q)
 
-  module _ (c : Bool) (f : c ≡ leb (pairCount (g .order)) (length buffer)) (h : b ≡ true) (r : Judged) where
+  module _ (w : wellFormed g ≡ true) (c : Bool) (f : c ≡ leb (pairCount (g .order)) (length buffer)) (r : Judged) where
     pub answers-cramped : c ≡ false → r ≡ without (Refused 5 0) → (r ≡ judgeAnswer g budget (length buffer)) × (buffer ≡ judgeBuffer g budget buffer)
     unfolding Answered judgeAnswer
     answers-cramped k q =
-        by-answer r buffer (passed b (wellFormed g) r _ _ e h (refused c (leb (pairCount (g .order)) (length buffer)) r _ _ f k q)) (refused-buffer g r 5 0 buffer q)
+        by-answer r buffer (passed true (wellFormed g) r _ _ (sym w) refl (refused c (leb (pairCount (g .order)) (length buffer)) r _ _ f k q)) (refused-buffer g r 5 0 buffer q)
 
     pub answers-judged : (after : List ℤ) → c ≡ true → r ≡ answerFor g budget (found g budget) → after ≡ atStart (r .verdict) (clauseOf g (r .arrangement)) buffer
         → (r ≡ judgeAnswer g budget (length buffer)) × (after ≡ judgeBuffer g budget buffer)
     unfolding Answered judgeAnswer
     answers-judged after k q z =
-        by-answer r after (passed b (wellFormed g) r _ _ e h (passed c (leb (pairCount (g .order)) (length buffer)) r _ _ f k q)) z
-
-pub tested-least : (g : Graph) (b : Bool) → b ≡ wellFormed g → b ≡ true → 1 ≤ g .order
-tested-least g b e h = formed g (sym e ∙ h) .order-low
-
-pub tested-most : (g : Graph) (b : Bool) → b ≡ wellFormed g → b ≡ true → g .order ≤ 32
-tested-most g b e h = formed g (sym e ∙ h) .order-high
+        by-answer r after (passed true (wellFormed g) r _ _ (sym w) refl (passed c (leb (pairCount (g .order)) (length buffer)) r _ _ f k q)) z
 
 -- the places after n of a path that began as zeros
 zeros-after : (m n : ℕ) → drop {A = ℕ} n (replicate m 0) ≡ replicate (m - n) 0

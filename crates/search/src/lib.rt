@@ -97,26 +97,34 @@ fn judge_formed<'a, 'b>(
     bare(Verdict::Cut { steps: budget })
 }
 
+// Judges as `judge` does, for a graph that is known to be well formed.
+pub fn judge_checked(graph: Graph, budget: u32, literals: &mut [i32]) -> Judged
+    requires { ⌜ wellFormed graph ≡ true ⌝ }
+    ensures { λ r. ⌜ (r ≡ judgeAnswer graph budget (length (now (literals .entry)))) × (now (literals .exit) ≡ judgeBuffer graph budget (now (literals .entry))) ⌝ }
+{
+    if has_room(graph.order, literals.len()) {
+        return judge_formed(
+            graph.order,
+            &graph.edges,
+            &graph.unknowns,
+            graph.starts,
+            budget,
+            literals,
+        );
+    }
+    bare(Verdict::Refused {
+        number: 5,
+        place: 0,
+    })
+}
+
 // Judges the graph within the budget. A clause is written at the buffer's start where the verdict is Smaller; every other
 // answer leaves the buffer. The buffer needs room for a literal for each pair.
 pub fn judge(graph: Graph, budget: u32, literals: &mut [i32]) -> Judged
     ensures { λ r. ⌜ (r ≡ judgeAnswer graph budget (length (now (literals .entry)))) × (now (literals .exit) ≡ judgeBuffer graph budget (now (literals .entry))) ⌝ }
 {
     if graph.is_well_formed() {
-        if has_room(graph.order, literals.len()) {
-            return judge_formed(
-                graph.order,
-                &graph.edges,
-                &graph.unknowns,
-                graph.starts,
-                budget,
-                literals,
-            );
-        }
-        return bare(Verdict::Refused {
-            number: 5,
-            place: 0,
-        });
+        return judge_checked(graph, budget, literals);
     }
     bare(Verdict::Refused {
         number: 8,

@@ -1,5 +1,6 @@
 use borrow.Author.Needs.{needs}
-use Rattle.cafruzek.proofs.RecordCases.{read-number, unread-packed, unread-buffer, unread-arranged, read-packed, read-buffer, read-arranged}
+use Rattle.cafruzek.proofs.JudgeCases.{is-judgement}
+use Rattle.cafruzek.proofs.RecordCases.{read-number, read-checked, unread-packed, unread-buffer, unread-arranged, read-packed, read-buffer, read-arranged}
 use Rattle.cafruzek.proofs.cafruzek_judge_record.Statement.{statement}
 use Rattle.cafruzek.proofs.cafruzek_judge_record.Tie as tie
 
@@ -12,8 +13,11 @@ refused-requires c κs = search (read-number, needs)
 returns : tie.Need-returns
 returns c = search (unread-packed, unread-buffer, unread-arranged, needs)
 
-judge-graph-requires : tie.Need-judge-graph-requires
-judge-graph-requires c κs = search needs
+judge-checked-requires : tie.Need-judge-checked-requires
+judge-checked-requires c κs = search (read-checked, needs)
+
+tell-requires : tie.Need-tell-requires
+tell-requires c κs = search (is-judgement, needs)
 
 same-length : tie.Need-same-length
 same-length c = search needs
@@ -24,4 +28,11 @@ returns-2 c = search (read-packed, read-buffer, read-arranged, needs)
 pub cafruzek-judge-record-spec : {M : Type 1} → statement M
 cafruzek-judge-record-spec =
     tie.close
-    (tie.spec read-requires refused-requires returns judge-graph-requires same-length returns-2)
+    (tie.spec
+    read-requires
+    refused-requires
+    returns
+    judge-checked-requires
+    tell-requires
+    same-length
+    returns-2)
