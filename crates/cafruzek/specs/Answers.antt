@@ -32,8 +32,6 @@ pub record Judgement (a : Judged) : Type 0 where
   pub room : ℕ
   pub is-answer : a ≡ judgeAnswer graph budget room
 
--- ---- rows
-
 -- ---- a record
 
 -- judging the graph of the record at the start of the bytes; a refused reading is the answer
