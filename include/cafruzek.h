@@ -1,5 +1,8 @@
-/* Cafruzek judges partially drawn graphs: can a permitted renumbering of the
- * vertices make this graph smaller in dictionary order, however it is completed?
+/* Cafruzek judges partially drawn graphs: does a permitted renumbering of the
+ * vertices have a standing pair, so that every way to complete this graph has a
+ * copy that is smaller in dictionary order? "None" denies the standing pair; of a
+ * graph with unknown entries it does not say that no renumbering makes every
+ * completion smaller. Of a fully drawn graph it says that none is smaller.
  *
  * Each function is one call on memory that the caller lends for that call.
  * Nothing is allocated, nothing is kept between two calls, and calls from several
