@@ -1,5 +1,5 @@
 -- What a record at the start of the bytes comes to, in each of its cases.
-use Prim.Native.Nat.{ℕ, _-_, _≤_, _<_}
+use Prim.Native.Nat.{ℕ, _+_, _-_, _≤_, _<_}
 use mathlib.Core.Path.{_≡_, refl, ap, _∙_}
 use mathlib.Core.Bool.{Bool, true, false}
 use mathlib.Core.List.{List}
@@ -110,3 +110,7 @@ module _ (s : List ℕ) (n : ℕ) (is-n : n ≡ orderIn (bitOf s)) (given : 1 �
 pub rest-is : (s : List ℕ) (r : Extent) → r ≡ recordAt s → take (length s - r .bytes) (drop (r .bytes) s) ≡ restOf s
 unfolding restOf
 rest-is s r e = take-all (length s - r .bytes) (drop (r .bytes) s) (rw length-drop (omega arith)) ∙ ap (λ (x : Extent). drop (x .bytes) s) e
+
+-- and it begins where that does
+pub rest-from : (b o : ℕ) (s : List ℕ) (r : Extent) → r ≡ recordAt s → _≡_ {A = ℕ × ℕ} (b, r .bytes + o) (b, o + (recordAt s) .bytes)
+rest-from b o s r e = ap {B = ℕ × ℕ} (λ (k : ℕ). (b, k)) (rw e (omega arith))

@@ -19,7 +19,7 @@ ghost use Prim.Native.Nat.{_≤_};
 ghost use lib.ListN.{length};
 ghost use Rattle.fields.specs.Bits.{bitOf};
 ghost use Rattle.record.specs.Reading.{orderIn, graphIn};
-ghost use Rattle.record.specs.Answers.{recordAt, readAnswer, restOf};
+ghost use Rattle.record.specs.Answers.{recordAt, readAnswer, restOf, restPlace};
 
 // How many bytes the record at the start of these takes, or why it is refused, as reading refuses.
 pub fn record_at(bytes: &[u8]) -> Extent
@@ -107,9 +107,9 @@ pub fn read(bytes: &[u8]) -> Record
     }
 }
 
-// The part of these bytes that follows the record at their start, all of them where reading it refuses.
+// The part of these same bytes that follows the record at their start, all of them where reading it refuses.
 pub fn rest(bytes: &[u8]) -> &[u8]
-    ensures { λ r. ⌜ now r ≡ restOf (now (bytes .entry)) ⌝ }
+    ensures { λ r. ⌜ (now r ≡ restOf (now (bytes .entry))) × (r .ptr ≡ restPlace (bytes .entry)) ⌝ }
 {
     let found = record_at(bytes);
     let taken = found.bytes;

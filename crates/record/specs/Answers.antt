@@ -1,8 +1,9 @@
 -- The full answer of each public function, with its refusals by number and place, in the order of their checks.
-use Prim.Native.Nat.{ℕ}
+use Prim.Native.Nat.{ℕ, _+_}
 use mathlib.Core.List.{List, _++_}
 use lib.ListN.{length, drop}
 use lib.Dec.{leb, eqb}
+use denote.Ref.{RefT, now}
 use Rattle.laws.specs.Test.{pick, unless}
 use Rattle.graph.specs.declared.Graph.{Graph}
 use Rattle.graph.specs.WellFormed.{wellFormed, orderFits}
@@ -50,6 +51,10 @@ readAnswer s =
 -- what follows the record, all of s where reading refuses
 unfoldable pub restOf : List ℕ → List ℕ
 restOf s = drop ((recordAt s) .bytes) s
+
+-- where in memory that part begins: so many bytes after the caller's own begin
+abbrev pub restPlace : RefT (List ℕ) → ℕ × ℕ
+restPlace bytes = (bytes .ptr .0, bytes .ptr .1 + (recordAt (now bytes)) .bytes)
 
 -- ---- writing
 

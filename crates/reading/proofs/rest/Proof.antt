@@ -1,5 +1,5 @@
 use borrow.Author.Needs.{needs}
-use Rattle.reading.proofs.RecordCases.{rest-is}
+use Rattle.reading.proofs.RecordCases.{rest-is, rest-from}
 use Rattle.reading.proofs.rest.Statement.{statement}
 use Rattle.reading.proofs.rest.Tie as tie
 
@@ -16,7 +16,7 @@ part-result-end : tie.Need-part-result-end
 part-result-end c = search needs
 
 returns : tie.Need-returns
-returns c = search (rest-is, needs)
+returns c = search (rest-is, rest-from, needs)
 
 pub rest-spec : {M : Type 1} → statement M
 rest-spec =
