@@ -11,10 +11,10 @@ use Rattle.laws.specs.Test.{pick, unless}
 use Rattle.laws.specs.Num.{num-below}
 use Rattle.graph.specs.declared.Graph.{Graph}
 use Rattle.graph.specs.WellFormed.{wellFormed, orderFits}
-use Rattle.pairs.specs.Pairs.{Pair, pairs, pairCount}
+use Rattle.pairs.specs.Pairs.{Pair, pairs, pairCount, Between}
 use Rattle.graph.specs.Counts.{entryAt}
 use Rattle.graph.proofs.Formed.{formed, order-in-range}
-use Rattle.pairs.proofs.PairLaws.{Between, pairs-given, pairCount-mono}
+use Rattle.pairs.proofs.PairLaws.{pairs-given, pairCount-mono}
 use Rattle.record.specs.declared.Extent.{Extent}
 use Rattle.record.specs.declared.Written.{Written}
 use Rattle.record.specs.Layout.{byteCount}
@@ -29,7 +29,8 @@ use Rattle.judging.specs.declared.Judged.{Judged}
 use Rattle.judging.specs.declared.Verdict.the-variants.{Refused}
 use Rattle.judging.specs.Judging.{image}
 use Rattle.judging.specs.Answer.{told, without, judgeAnswer}
-use Rattle.judging.proofs.Exact.{InWords, malformed, cramped, cut-off, none-smaller, found-smaller, judged-in-words}
+use Rattle.judging.proofs.Exact.{judged-in-words}
+use Rattle.judging.specs.InWords.{InWords, malformed, cramped, cut-off, none-smaller, found-smaller}
 use Rattle.judging.proofs.Buffer.{clause-fits}
 use Rattle.cafruzek.specs.Packing.{placeTold, lowTold}
 use Rattle.cafruzek.specs.Answers.{judgeRecord}

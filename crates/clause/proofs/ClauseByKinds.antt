@@ -21,9 +21,9 @@ use Rattle.walk.proofs.Clause.{among-listed}
 use Rattle.graph.specs.declared.Graph.{Graph}
 use Rattle.graph.specs.WellFormed.{wellFormed}
 use Rattle.arrangements.specs.Arrangement.{at, Reordering, isReordering, isPermitted, inverse}
-use Rattle.pairs.specs.Pairs.{Pair, pair, pairs, number}
+use Rattle.pairs.specs.Pairs.{Pair, pair, pairs, number, Between, numberOf}
 use Rattle.graph.specs.Counts.{entryAt}
-use Rattle.pairs.proofs.PairLaws.{Between, numberOf, pairs-given, pairs-has, number-one, number-next-row}
+use Rattle.pairs.proofs.PairLaws.{pairs-given, pairs-has, number-one, number-next-row}
 use Rattle.graph.proofs.Formed.{formed}
 use Rattle.arrangements.proofs.Permits.{permitted, reordering-tested}
 use Rattle.arrangements.proofs.Composing.{inverse-before, inverse-reordering}

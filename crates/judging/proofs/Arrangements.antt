@@ -23,10 +23,10 @@ use Rattle.graph.specs.Graph.{entry}
 use Rattle.rows.specs.Rows.{blockOf}
 use Rattle.graph.specs.WellFormed.{WellFormed}
 use Rattle.arrangements.specs.Arrangement.{at, Reordering, Permitted}
-use Rattle.pairs.specs.Pairs.{Pair, pair, pairs}
+use Rattle.pairs.specs.Pairs.{Pair, pair, pairs, Between}
 use Rattle.graph.specs.Counts.{entryAt}
 use Rattle.rows.proofs.Placed.{same-places}
-use Rattle.pairs.proofs.PairLaws.{Between, pairs-given, pairs-has}
+use Rattle.pairs.proofs.PairLaws.{pairs-given, pairs-has}
 use Rattle.judging.specs.Judging.{samePair, pairOfTwo, image, walkAll, literalsOf, clauseOf, padded}
 
 -- ---- one pair or two

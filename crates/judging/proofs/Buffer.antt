@@ -16,7 +16,8 @@ use Rattle.judging.specs.declared.Verdict.the-variants.{Smaller, Nothing
 use Rattle.judging.specs.declared.Judged.{Judged}
 use Rattle.judging.specs.Judging.{samePair, literalsOf, clauseOf}
 use Rattle.judging.specs.Answer.{told, without, judgeAnswer, atStart, judgeBuffer}
-use Rattle.judging.proofs.Exact.{InWords, malformed, cramped, cut-off, none-smaller, found-smaller, judged-in-words}
+use Rattle.judging.specs.InWords.{InWords, malformed, cramped, cut-off, none-smaller, found-smaller}
+use Rattle.judging.proofs.Exact.{judged-in-words}
 
 -- a clause has at most n(n - 1)/2 literals
 pub clause-fits : (g : Graph) (p : List ℕ) → length (clauseOf g p) ≤ pairCount (g .order)
@@ -24,12 +25,12 @@ unfolding clauseOf
 clause-fits g p = rw (← pairs-length (g .order)) (clause-length samePair (literalsOf g p) (pairs (g .order)))
 
 -- except for "smaller", the arrangement is zero and no literal is written
-pub zeros-beside : (g : Graph) (budget room : ℕ) → told (judgeAnswer g budget room .verdict) .code ≢ 1
+pub zeros-beside : (g : Graph) (budget room : ℕ) → told (judgeAnswer g budget room .verdict) .kind ≢ 1
     → (judgeAnswer g budget room .arrangement ≡ replicate 32 0) × (judgeAnswer g budget room .literals ≡ 0)
 unfolding told without
 zeros-beside g budget room = at (judged-in-words g budget room)
   where
-    at : {a : Judged} → InWords g budget room a → told (a .verdict) .code ≢ 1 → (a .arrangement ≡ replicate 32 0) × (a .literals ≡ 0)
+    at : {a : Judged} → InWords g budget room a → told (a .verdict) .kind ≢ 1 → (a .arrangement ≡ replicate 32 0) × (a .literals ≡ 0)
     at (malformed no-graph) ne = (refl, refl)
     at (cramped w h) ne = (refl, refl)
     at (cut-off w h l) ne = (refl, refl)
@@ -37,12 +38,12 @@ zeros-beside g budget room = at (judged-in-words g budget room)
     at (found-smaller w h l f) ne = absurd (ne refl)
 
 -- for "smaller" the count is that of the clause's literals
-pub literals-counted : (g : Graph) (budget room : ℕ) → told (judgeAnswer g budget room .verdict) .code ≡ 1
+pub literals-counted : (g : Graph) (budget room : ℕ) → told (judgeAnswer g budget room .verdict) .kind ≡ 1
     → judgeAnswer g budget room .literals ≡ length (clauseOf g (judgeAnswer g budget room .arrangement))
 unfolding told without
 literals-counted g budget room = at (judged-in-words g budget room)
   where
-    at : {a : Judged} → InWords g budget room a → told (a .verdict) .code ≡ 1 → a .literals ≡ length (clauseOf g (a .arrangement))
+    at : {a : Judged} → InWords g budget room a → told (a .verdict) .kind ≡ 1 → a .literals ≡ length (clauseOf g (a .arrangement))
     at (malformed no-graph) e = absurd (omega arith)
     at (cramped w h) e = absurd (omega arith)
     at (cut-off w h l) e = absurd (omega arith)
@@ -50,7 +51,7 @@ literals-counted g budget room = at (judged-in-words g budget room)
     at (found-smaller w h l f) e = refl
 
 -- for which the buffer has room
-smaller-room : {g : Graph} {budget room : ℕ} {a : Judged} → InWords g budget room a → told (a .verdict) .code ≡ 1 → pairCount (g .order) ≤ room
+smaller-room : {g : Graph} {budget room : ℕ} {a : Judged} → InWords g budget room a → told (a .verdict) .kind ≡ 1 → pairCount (g .order) ≤ room
 unfolding told without
 smaller-room (malformed no-graph) e = absurd (omega arith)
 smaller-room (cramped w h) e = absurd (omega arith)
@@ -59,7 +60,7 @@ smaller-room (none-smaller w h l nowhere) e = h
 smaller-room (found-smaller w h l f) e = h
 
 -- where the code is that of "smaller", the literals stand at the start
-start-smaller : (v : Verdict) (lits buffer : List ℤ) → told v .code ≡ 1 → atStart v lits buffer ≡ lits ++ drop (length lits) buffer
+start-smaller : (v : Verdict) (lits buffer : List ℤ) → told v .kind ≡ 1 → atStart v lits buffer ≡ lits ++ drop (length lits) buffer
 unfolding told atStart
 start-smaller (Smaller row column steps) lits buffer e = refl
 start-smaller (Nothing steps) lits buffer e = absurd (omega arith)
@@ -67,7 +68,7 @@ start-smaller (Cut steps) lits buffer e = absurd (omega arith)
 start-smaller (Refused number place) lits buffer e = absurd (omega arith)
 
 -- elsewhere nothing is changed
-start-else : (v : Verdict) (lits buffer : List ℤ) → told v .code ≢ 1 → atStart v lits buffer ≡ buffer
+start-else : (v : Verdict) (lits buffer : List ℤ) → told v .kind ≢ 1 → atStart v lits buffer ≡ buffer
 unfolding told atStart
 start-else (Smaller row column steps) lits buffer ne = absurd (ne refl)
 start-else (Nothing steps) lits buffer ne = refl
@@ -79,21 +80,21 @@ module _ (g : Graph) (budget : ℕ) (buffer : List ℤ) where
   answer = judgeAnswer g budget (length buffer)
 
   -- and the buffer is as it was
-  pub buffer-unchanged : told (judgeAnswer g budget (length buffer) .verdict) .code ≢ 1 → judgeBuffer g budget buffer ≡ buffer
+  pub buffer-unchanged : told (judgeAnswer g budget (length buffer) .verdict) .kind ≢ 1 → judgeBuffer g budget buffer ≡ buffer
   unfolding judgeBuffer
   buffer-unchanged ne = start-else (answer .verdict) (clauseOf g (answer .arrangement)) buffer ne
 
   -- for "smaller" it holds the clause, and after it what it held
-  pub buffer-written : told (judgeAnswer g budget (length buffer) .verdict) .code ≡ 1
+  pub buffer-written : told (judgeAnswer g budget (length buffer) .verdict) .kind ≡ 1
       → judgeBuffer g budget buffer ≡ clauseOf g (judgeAnswer g budget (length buffer) .arrangement) ++ drop (length (clauseOf g (judgeAnswer g budget (length buffer) .arrangement))) buffer
   unfolding judgeBuffer
   buffer-written e = start-smaller (answer .verdict) (clauseOf g (answer .arrangement)) buffer e
 
   -- its length never changes
   pub buffer-length : length (judgeBuffer g budget buffer) ≡ length buffer
-  buffer-length = go (ℕ-discrete (told (answer .verdict) .code) 1)
+  buffer-length = go (ℕ-discrete (told (answer .verdict) .kind) 1)
     where
-      go : Dec (told (answer .verdict) .code ≡ 1) → length (judgeBuffer g budget buffer) ≡ length buffer
+      go : Dec (told (answer .verdict) .kind ≡ 1) → length (judgeBuffer g budget buffer) ≡ length buffer
       go (no ne) = ap length (buffer-unchanged ne)
       go (yes e) =
           let lits : List ℤ = clauseOf g (answer .arrangement) in

@@ -17,25 +17,13 @@ use Rattle.beginnings.proofs.FirstCertificate.{none-certified, first-certificat
 use Rattle.graph.specs.declared.Graph.{Graph}
 use Rattle.rows.specs.Rows.{blockOf}
 use Rattle.graph.specs.WellFormed.{WellFormed}
-use Rattle.arrangements.specs.Arrangement.{Permitted}
 use Rattle.pairs.specs.Pairs.{Pair, pairs}
 use Rattle.graph.specs.Counts.{entryAt}
 use Rattle.judging.specs.Judging.{samePair, image, walkAll, judgedOn, judged, found, stepsFor, padded, certificateOf}
 use Rattle.judging.specs.Answer.{standingPair}
+use Rattle.judging.specs.Certificates.{Certified, FirstCertified}
 use Rattle.judging.proofs.Arrangements.{take-padded, permitted-length, permitted-beginning, permitted-padded, padded-permitted, before-padded, padded-walk}
 use Rattle.judging.proofs.Judgements.{walk-stands, full-won, won-extends, won-stays, lost-stays}
-
--- a permitted arrangement with a standing pair
-pub record Certified (g : Graph) (p : List ℕ) : Type 0 where
-  pub permitted : Permitted (g .order) (g .starts) p
-  pub pair : Pair
-  pub standing : StandsIn (entryAt g) (image p) (pairs (g .order)) pair
-
--- p, with the standing pair k, comes first of all of them in dictionary order
-pub record FirstCertified (g : Graph) (p : List ℕ) (k : Pair) : Type 0 where
-  pub permitted : Permitted (g .order) (g .starts) p
-  pub standing : StandsIn (entryAt g) (image p) (pairs (g .order)) k
-  pub earliest : (q : List ℕ) → Certified g q → (q ≡ p) ⊎ Before p q
 
 -- it is one of them
 pub first-certified : {g : Graph} {p : List ℕ} {k : Pair} → FirstCertified g p k → Certified g p

@@ -2,21 +2,16 @@
 use Prim.Native.Nat.{ℕ, suc}
 use native.Mathlib.Omega.{arith}
 use mathlib.Core.Path.{_≡_, sym, ap, _∙_}
-use mathlib.Core.Logic.{_⊎_, _↔_}
-use mathlib.Core.List.{List, [], _∷_, List·Memᴰ}
+use mathlib.Core.Logic.{_⊎_}
+use mathlib.Core.List.{List, [], _∷_}
 use lib.ListN.{length, length-append}
-use Rattle.beginnings.specs.Order.{Rising}
-use Rattle.beginnings.specs.Search.{IsReached, NoneWon, FirstWon, reached, needed, throughWon}
+use Rattle.beginnings.specs.Search.{NoneWon, FirstWon, reached, needed, throughWon}
 use Rattle.beginnings.proofs.Reached.{reached-exactly, reached-rises, reached-unique}
 use Rattle.beginnings.proofs.Count.{none-or-first, through-none, through-first}
 use Rattle.graph.specs.declared.Graph.{Graph}
 use Rattle.rows.specs.Rows.{blockOf}
 use Rattle.judging.specs.Judging.{judged, stepsFor}
-
--- bs are exactly the beginnings of g all of whose shorter beginnings are open, in dictionary order
-pub record AllReached (g : Graph) (bs : List (List ℕ)) : Type 0 where
-  pub exactly : (b : List ℕ) → List·Memᴰ b bs ↔ IsReached (g .order) (blockOf (g .starts)) (judged g) b
-  pub rising : Rising bs
+use Rattle.judging.specs.InWords.{AllReached}
 
 module _ (g : Graph) where
   -- the list that a search makes is such a list

@@ -5,7 +5,6 @@ use mathlib.Core.Path.{_≡_, refl, sym, ap, ap₂, subst, _∙_}
 use mathlib.Core.Logic.{_↔_}
 use mathlib.Core.Bool.{Bool, true, false}
 use mathlib.Core.List.{List}
-use lib.ListN.{length}
 use lib.Dec.{leb}
 use borrow.Author.Tests.{le-leb, lt-leb, leb-true, leb-false}
 use Rattle.laws.specs.TestLaws.{unless-true, unless-false, fails}
@@ -14,25 +13,15 @@ use Rattle.beginnings.proofs.Steps.{cut-exactly, none-exactly, first-exactly, z
 use Rattle.graph.specs.declared.Graph.{Graph}
 use Rattle.rows.specs.Rows.{blockOf}
 use Rattle.graph.specs.WellFormed.{WellFormed, wellFormed}
-use Rattle.pairs.specs.Pairs.{Pair, pairCount}
+use Rattle.pairs.specs.Pairs.{pairCount}
 use Rattle.graph.proofs.Formed.{formed, tested, not-formed}
-use Rattle.judging.specs.declared.Verdict.the-variants.{Smaller, Nothing, Cut, Refused}
+use Rattle.judging.specs.declared.Verdict.the-variants.{Nothing, Cut, Refused}
 use Rattle.judging.specs.declared.Judged.{Judged}
-use Rattle.judging.specs.Judging.{walkAll, clauseOf, judged, found, stepsFor, certificateOf}
+use Rattle.judging.specs.Judging.{walkAll, judged, found, stepsFor, certificateOf}
 use Rattle.judging.specs.Answer.{told, without, standingPair, smaller, answerFor, judgeAnswer}
-use Rattle.judging.proofs.Certificates.{Certified, FirstCertified, first-certified, one-first, none-certified-at, found-first, finds-none, finds-first}
-
--- the answer p, with its standing pair and its clause
-abbrev pub smallerBy : Graph → List ℕ → Pair → Judged
-smallerBy g p k = record { verdict = Smaller (k .row) (k .column) (stepsFor g); arrangement = p; literals = length (clauseOf g p) }
-
--- the answers that the rules give, by when they give them
-pub data InWords (g : Graph) (budget room : ℕ) : Judged → Type 0 where
-  malformed : ¬ WellFormed g → InWords g budget room (without (Refused 8 0))
-  cramped : WellFormed g → room < pairCount (g .order) → InWords g budget room (without (Refused 5 0))
-  cut-off : WellFormed g → pairCount (g .order) ≤ room → budget < stepsFor g → InWords g budget room (without (Cut budget))
-  none-smaller : WellFormed g → pairCount (g .order) ≤ room → stepsFor g ≤ budget → ((p : List ℕ) → ¬ Certified g p) → InWords g budget room (without (Nothing (stepsFor g)))
-  found-smaller : WellFormed g → pairCount (g .order) ≤ room → stepsFor g ≤ budget → {p : List ℕ} {k : Pair} → FirstCertified g p k → InWords g budget room (smallerBy g p k)
+use Rattle.judging.specs.Certificates.{Certified}
+use Rattle.judging.specs.InWords.{smallerBy, InWords, malformed, cramped, cut-off, none-smaller, found-smaller}
+use Rattle.judging.proofs.Certificates.{first-certified, one-first, none-certified-at, found-first, finds-none, finds-first}
 
 module _ (g : Graph) (budget room : ℕ) where
   -- ---- the checks, in their order
@@ -98,11 +87,11 @@ module _ (g : Graph) (budget room : ℕ) where
     exact-cut l = sym (words-alone (cut-off w enough l))
 
     -- and cut only so
-    pub exact-cut-only : told (judgeAnswer g budget room .verdict) .code ≡ 2 → budget < stepsFor g
+    pub exact-cut-only : told (judgeAnswer g budget room .verdict) .kind ≡ 2 → budget < stepsFor g
     unfolding told without
     exact-cut-only = at judged-in-words
       where
-        at : {a : Judged} → InWords g budget room a → told (a .verdict) .code ≡ 2 → budget < stepsFor g
+        at : {a : Judged} → InWords g budget room a → told (a .verdict) .kind ≡ 2 → budget < stepsFor g
         at (malformed no-graph) e = absurd (no-graph w)
         at (cramped v h) e = absurd (omega arith)
         at (cut-off v h l) e = l
@@ -111,18 +100,18 @@ module _ (g : Graph) (budget room : ℕ) where
 
     module _ (reach : stepsFor g ≤ budget) where
       -- "smaller" exactly where some permitted arrangement has a standing pair
-      pub exact-smaller : (told (judgeAnswer g budget room .verdict) .code ≡ 1) ↔ ((p : List ℕ) × Certified g p)
+      pub exact-smaller : (told (judgeAnswer g budget room .verdict) .kind ≡ 1) ↔ ((p : List ℕ) × Certified g p)
       unfolding told without
       exact-smaller = (to judged-in-words, from judged-in-words)
         where
-          to : {a : Judged} → InWords g budget room a → told (a .verdict) .code ≡ 1 → (p : List ℕ) × Certified g p
+          to : {a : Judged} → InWords g budget room a → told (a .verdict) .kind ≡ 1 → (p : List ℕ) × Certified g p
           to (malformed no-graph) e = absurd (no-graph w)
           to (cramped v h) e = absurd (omega arith)
           to (cut-off v h l) e = absurd (omega arith)
           to (none-smaller v h l nowhere) e = absurd (omega arith)
           to (found-smaller v h l {p} f) e = (p, first-certified f)
 
-          from : {a : Judged} → InWords g budget room a → (p : List ℕ) × Certified g p → told (a .verdict) .code ≡ 1
+          from : {a : Judged} → InWords g budget room a → (p : List ℕ) × Certified g p → told (a .verdict) .kind ≡ 1
           from (malformed no-graph) c = absurd (no-graph w)
           from (cramped v h) c = absurd (omega arith)
           from (cut-off v h l) c = absurd (omega arith)
@@ -130,11 +119,11 @@ module _ (g : Graph) (budget room : ℕ) where
           from (found-smaller v h l f) c = refl
 
       -- "none" exactly where none has
-      pub exact-none : (told (judgeAnswer g budget room .verdict) .code ≡ 0) ↔ ((p : List ℕ) → ¬ Certified g p)
+      pub exact-none : (told (judgeAnswer g budget room .verdict) .kind ≡ 0) ↔ ((p : List ℕ) → ¬ Certified g p)
       unfolding told without
-      exact-none = (to judged-in-words, λ nowhere. ap (λ (a : Judged). told (a .verdict) .code) (sym (words-alone (none-smaller w enough reach nowhere))))
+      exact-none = (to judged-in-words, λ nowhere. ap (λ (a : Judged). told (a .verdict) .kind) (sym (words-alone (none-smaller w enough reach nowhere))))
         where
-          to : {a : Judged} → InWords g budget room a → told (a .verdict) .code ≡ 0 → (p : List ℕ) → ¬ Certified g p
+          to : {a : Judged} → InWords g budget room a → told (a .verdict) .kind ≡ 0 → (p : List ℕ) → ¬ Certified g p
           to (malformed no-graph) e = absurd (no-graph w)
           to (cramped v h) e = absurd (omega arith)
           to (cut-off v h l) e = absurd (omega arith)

@@ -1,26 +1,15 @@
 -- Where the verdict is "smaller", the certificate given is the first in dictionary order, with its one standing pair.
-use Prim.Native.Nat.{ℕ, _≤_}
+use Prim.Native.Nat.{ℕ}
 use native.Mathlib.Omega.{arith}
 use mathlib.Core.Path.{_≡_, refl, ap₂, subst}
-use lib.ListN.{length}
 use Rattle.graph.specs.declared.Graph.{Graph}
-use Rattle.graph.specs.WellFormed.{WellFormed}
-use Rattle.pairs.specs.Pairs.{Pair, pair, pairCount}
+use Rattle.pairs.specs.Pairs.{Pair, pair}
 use Rattle.judging.specs.declared.Verdict.the-variants.{Smaller}
 use Rattle.judging.specs.declared.Judged.{Judged}
-use Rattle.judging.specs.Judging.{clauseOf, stepsFor}
 use Rattle.judging.specs.Answer.{without, judgeAnswer}
-use Rattle.judging.proofs.Certificates.{FirstCertified}
-use Rattle.judging.proofs.Exact.{InWords, malformed, cramped, cut-off, none-smaller, found-smaller, judged-in-words}
-
--- what goes with the verdict "smaller" at (row, column) with so many steps
-pub record GivenSmaller (g : Graph) (budget room row column steps : ℕ) (a : Judged) : Type 0 where
-  pub formed : WellFormed g
-  pub enough : pairCount (g .order) ≤ room
-  pub reach : stepsFor g ≤ budget
-  pub count : steps ≡ stepsFor g
-  pub first : FirstCertified g (a .arrangement) (pair row column)
-  pub literals : a .literals ≡ length (clauseOf g (a .arrangement))
+use Rattle.judging.specs.Certificates.{FirstCertified}
+use Rattle.judging.specs.InWords.{InWords, malformed, cramped, cut-off, none-smaller, found-smaller, GivenSmaller}
+use Rattle.judging.proofs.Exact.{judged-in-words}
 
 -- the certificate is permitted, stands at that pair, and every other one comes after it
 pub smaller-first : (g : Graph) (budget room row column steps : ℕ) → judgeAnswer g budget room .verdict ≡ Smaller row column steps

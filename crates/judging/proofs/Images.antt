@@ -13,9 +13,9 @@ use Rattle.graph.specs.declared.Graph.{Graph}
 use Rattle.graph.specs.WellFormed.{WellFormed}
 use Rattle.arrangements.specs.Arrangement.{at, Reordering}
 use Rattle.graph.specs.Graph.{relabelled}
-use Rattle.pairs.specs.Pairs.{Pair, pair, pairs}
+use Rattle.pairs.specs.Pairs.{Pair, pair, pairs, Between}
 use Rattle.graph.specs.Counts.{entryAt}
-use Rattle.pairs.proofs.PairLaws.{Between, pairs-given}
+use Rattle.pairs.proofs.PairLaws.{pairs-given}
 use Rattle.arrangements.proofs.Composing.{one-place}
 use Rattle.graph.proofs.Relabelling.{relabelled-entry}
 use Rattle.judging.specs.Judging.{pairOfTwo, image}

@@ -23,13 +23,13 @@ use Rattle.graph.specs.declared.Graph.{Graph}
 use Rattle.rows.specs.Rows.{placed, mirrored}
 use Rattle.graph.specs.Graph.{drawn}
 use Rattle.arrangements.specs.Arrangement.{Reordering, placeOf, inverse}
-use Rattle.pairs.specs.Pairs.{Pair, pair, alongRow, fromRow, pairs, pairCount, number}
+use Rattle.pairs.specs.Pairs.{Pair, pair, alongRow, fromRow, pairs, pairCount, number, Between, numberOf}
 use Rattle.graph.specs.Counts.{entryAt}
-use Rattle.pairs.proofs.PairLaws.{Between, numberOf, pairs-given, pairs-has, pairs-length, split-number, before-smaller}
+use Rattle.pairs.proofs.PairLaws.{pairs-given, pairs-has, pairs-length, split-number, before-smaller}
 use Rattle.judging.specs.Judging.{samePair, pairOfTwo, image, walkAll, literalsOf, clauseOf, padded}
+use Rattle.judging.specs.Certificates.{Certified, ComesBefore, InClause, not-pair, its-image, not-standing, standing-image}
+use Rattle.judging.specs.Drawings.{BrokenBy}
 use Rattle.judging.proofs.Arrangements.{samePair-tells, image-between, images-inside}
-use Rattle.judging.proofs.Certificates.{Certified}
-use Rattle.judging.proofs.Sound.{BrokenBy}
 
 -- ---- false in the graph, rising, each pair once
 
@@ -72,11 +72,6 @@ clause-numbers g p z h = (
 
 -- ---- pairs before a pair, by number
 
--- j is a pair of 1..n that comes before k in row order
-pub record ComesBefore (n : ℕ) (j k : Pair) : Type 0 where
-  pub between : Between 1 n j
-  pub smaller : numberOf n j < numberOf n k
-
 module _ (n : ℕ) (k : Pair) (before after : List Pair) (split : pairs n ≡ before ++ k ∷ after) where
   pub stands-before : (j : Pair) → List·Memᴰ j before → ComesBefore n j k
   stands-before j m =
@@ -105,13 +100,6 @@ pub number-in-pairs : (n : ℕ) (k : Pair) (m : ℕ) → Numbered (pairs n) k m 
 number-in-pairs n k m a = a .count ∙ sym (split-number n k (a .before) (a .after) (a .split))
 
 -- ---- which literals
-
--- the rules' sentence: for each pair j before the standing one k that isn't its own image, "not j" if a is 1, else j's image; for k both
-pub data InClause (g : Graph) (p : List ℕ) (k : Pair) (z : ℤ) : Type 0 where
-  not-pair : (j : Pair) → ComesBefore (g .order) j k → image p j ≢ j → entryAt g j ≡ 1 → z ≡ negℤ (pos (numberOf (g .order) j)) → InClause g p k z
-  its-image : (j : Pair) → ComesBefore (g .order) j k → image p j ≢ j → entryAt g j ≢ 1 → z ≡ pos (numberOf (g .order) (image p j)) → InClause g p k z
-  not-standing : z ≡ negℤ (pos (numberOf (g .order) k)) → InClause g p k z
-  standing-image : z ≡ pos (numberOf (g .order) (image p k)) → InClause g p k z
 
 module _ (g : Graph) (p : List ℕ) (r : Reordering (g .order) p) (k : Pair) (stands : StandsIn (entryAt g) (image p) (pairs (g .order)) k) where
   up-to : List Pair

@@ -24,15 +24,14 @@ use Rattle.graph.proofs.Relabelling.{relabelled-order, relabelled-starts, relab
 use Rattle.judging.specs.declared.Judged.{Judged}
 use Rattle.judging.specs.Judging.{image, walkAll, stepsFor}
 use Rattle.judging.specs.Answer.{told, judgeAnswer}
+use Rattle.judging.specs.Certificates.{Certified}
+use Rattle.judging.specs.InWords.{InWords, malformed, cramped, cut-off, none-smaller, found-smaller}
+use Rattle.judging.specs.Drawings.{EarlierCopy, Smallest, SmallestBy}
 use Rattle.judging.proofs.Arrangements.{samePair-tells}
 use Rattle.judging.proofs.Judgements.{walk-stands}
-use Rattle.judging.proofs.Certificates.{Certified, first-certified}
-use Rattle.judging.proofs.Exact.{InWords, malformed, cramped, cut-off, none-smaller, found-smaller, judged-in-words, exact-none}
-use Rattle.judging.proofs.Sound.{EarlierCopy, copy-earlier}
-
--- no permitted copy of g is strictly earlier
-abbrev pub Smallest : Graph → Type 0
-Smallest g = (p : List ℕ) → ¬ EarlierCopy g p
+use Rattle.judging.proofs.Certificates.{first-certified}
+use Rattle.judging.proofs.Exact.{judged-in-words, exact-none}
+use Rattle.judging.proofs.Sound.{copy-earlier}
 
 module _ (g : Graph) (w : WellFormed g) (d : FullyDrawn g) where
   standing-earlier : (p : List ℕ) → ((k : Pair) × (walkAll g p ≡ won k)) ↔ EarlierGraph (relabelled g p) g
@@ -50,7 +49,7 @@ module _ (g : Graph) (w : WellFormed g) (d : FullyDrawn g) where
   )
 
   -- so with room and budget enough, "none" says that no permitted renumbering comes earlier, and nothing else does
-  pub none-smallest : (budget room : ℕ) → pairCount (g .order) ≤ room → stepsFor g ≤ budget → (told (judgeAnswer g budget room .verdict) .code ≡ 0) ↔ Smallest g
+  pub none-smallest : (budget room : ℕ) → pairCount (g .order) ≤ room → stepsFor g ≤ budget → (told (judgeAnswer g budget room .verdict) .kind ≡ 0) ↔ Smallest g
   none-smallest budget room enough reach =
       let none = exact-none g budget room w enough reach in (
         λ e p copy. none .0 e p (certified-earlier p .1 copy),
@@ -120,11 +119,6 @@ earlier-lighter x y (k ∷ ks) h e = at (earlier-cases x y e) (λ f. earlier-lig
         → x k * 2 ^ length ks + weight x ks < y k * 2 ^ length ks + weight y ks
     at (inl a) f = rw (a .0, a .1) (omega (arith, weight-below x ks (each-rest (λ k. x k ≤ 1) h)))
     at (inr a) f = rw (a .0) (omega (arith, f (a .1)))
-
--- q is permitted for h, and no permitted copy of the copy by q is earlier than it
-pub record SmallestBy (h : Graph) (q : List ℕ) : Type 0 where
-  pub permitted : Permitted (h .order) (h .starts) q
-  pub smallest : Smallest (relabelled h q)
 
 -- judging decides whether there is a certificate
 certified-or-none : (g : Graph) → WellFormed g → ((p : List ℕ) × Certified g p) ⊎ ((p : List ℕ) → ¬ Certified g p)

@@ -13,7 +13,6 @@ use Rattle.walk.specs.Earlier.{Earlier, copy, LexLess}
 use Rattle.walk.proofs.Broken.{clause-sound}
 use Rattle.graph.specs.declared.Graph.{Graph}
 use Rattle.graph.specs.WellFormed.{WellFormed, FullyDrawn}
-use Rattle.arrangements.specs.Arrangement.{Permitted}
 use Rattle.graph.specs.Graph.{relabelled}
 use Rattle.pairs.specs.Pairs.{pairs}
 use Rattle.graph.specs.Counts.{entryAt}
@@ -22,31 +21,16 @@ use Rattle.graph.proofs.Relabelling.{relabelled-order, relabelled-formed, relab
 use Rattle.graph.proofs.OrderLaws.{same-order}
 use Rattle.judging.specs.declared.Judged.{Judged}
 use Rattle.judging.specs.Judging.{image, walkAll, literalsOf, clauseOf}
-use Rattle.judging.specs.Answer.{told, without, judgeAnswer, judgeBuffer}
+use Rattle.judging.specs.Answer.{told, without, judgeAnswer}
+use Rattle.judging.specs.Certificates.{Certified}
+use Rattle.judging.specs.InWords.{InWords, malformed, cramped, cut-off, none-smaller, found-smaller}
+use Rattle.judging.specs.Drawings.{FullGraph, EarlierCopy, BrokenBy, SaysSmaller, written}
 use Rattle.judging.proofs.Arrangements.{samePair-tells, images-inside}
 use Rattle.judging.proofs.Judgements.{walk-stands}
-use Rattle.judging.proofs.Certificates.{Certified, first-certified}
-use Rattle.judging.proofs.Exact.{InWords, malformed, cramped, cut-off, none-smaller, found-smaller, judged-in-words}
+use Rattle.judging.proofs.Certificates.{first-certified}
+use Rattle.judging.proofs.Exact.{judged-in-words}
 use Rattle.judging.proofs.Buffer.{literals-counted, buffer-written}
 use Rattle.judging.proofs.Images.{relabelled-image}
-
--- ---- the words of the statement
-
--- a fully drawn, well-formed graph of order n with these block starts
-pub record FullGraph (n starts : ℕ) (h : Graph) : Type 0 where
-  pub formed : WellFormed h
-  pub full : FullyDrawn h
-  pub order-is : h .order ≡ n
-  pub starts-are : h .starts ≡ starts
-
--- the copy of h by p is permitted and strictly earlier than h
-pub record EarlierCopy (h : Graph) (p : List ℕ) : Type 0 where
-  pub permitted : Permitted (h .order) (h .starts) p
-  pub earlier : EarlierGraph (relabelled h p) h
-
--- every literal of the clause is false in h
-abbrev pub BrokenBy : Graph → List ℕ → Graph → Type 0
-BrokenBy g p h = BreaksClause (pairs (g .order)) (clauseOf g p) (entryAt h)
 
 -- ---- copies
 
@@ -98,20 +82,12 @@ module _ (g : Graph) (p : List ℕ) (c : Certified g p) where
 
 -- ---- what judging writes
 
--- judging g says "smaller"
-abbrev pub SaysSmaller : Graph → ℕ → List ℤ → Type 0
-SaysSmaller g budget buffer = told (judgeAnswer g budget (length buffer) .verdict) .code ≡ 1
-
--- the literals that it writes at the buffer's start
-abbrev pub written : Graph → ℕ → List ℤ → List ℤ
-written g budget buffer = take (judgeAnswer g budget (length buffer) .literals) (judgeBuffer g budget buffer)
-
 -- the arrangement that goes with "smaller" is a certificate
-smaller-certified : (g : Graph) (budget room : ℕ) → told (judgeAnswer g budget room .verdict) .code ≡ 1 → Certified g (judgeAnswer g budget room .arrangement)
+smaller-certified : (g : Graph) (budget room : ℕ) → told (judgeAnswer g budget room .verdict) .kind ≡ 1 → Certified g (judgeAnswer g budget room .arrangement)
 unfolding told without
 smaller-certified g budget room = at (judged-in-words g budget room)
   where
-    at : {a : Judged} → InWords g budget room a → told (a .verdict) .code ≡ 1 → Certified g (a .arrangement)
+    at : {a : Judged} → InWords g budget room a → told (a .verdict) .kind ≡ 1 → Certified g (a .arrangement)
     at (malformed no-graph) e = absurd (omega arith)
     at (cramped w h) e = absurd (omega arith)
     at (cut-off w h l) e = absurd (omega arith)

@@ -1,29 +1,20 @@
 -- Survival: a fully drawn graph none of whose permitted copies is earlier breaks no clause ever written for its order and blocks. So of every network a copy is left, whatever clauses were written.
 use Prim.Native.Nat.{ℕ}
 use mathlib.Core.List.{List}
-use lib.IntN.{ℤ}
 use lib.ListN.{length}
-use Rattle.walk.specs.Clause.{BreaksClause}
 use Rattle.graph.specs.declared.Graph.{Graph}
 use Rattle.graph.specs.WellFormed.{WellFormed, FullyDrawn}
 use Rattle.arrangements.specs.Arrangement.{Permitted}
 use Rattle.graph.specs.Graph.{relabelled}
-use Rattle.pairs.specs.Pairs.{pairs}
-use Rattle.graph.specs.Counts.{entryAt}
 use Rattle.judging.specs.Answer.{judgeAnswer}
-use Rattle.judging.proofs.Certificates.{Certified}
-use Rattle.judging.proofs.Sound.{FullGraph, BrokenBy, sound, SaysSmaller, written, written-sound}
-use Rattle.judging.proofs.Smallest.{Smallest, smallest-copy}
+use Rattle.judging.specs.Certificates.{Certified}
+use Rattle.judging.specs.Drawings.{FullGraph, BrokenBy, Smallest, Survives}
+use Rattle.judging.proofs.Sound.{sound, written-sound}
+use Rattle.judging.proofs.Smallest.{smallest-copy}
 
 -- it breaks no clause of a certificate
 pub smallest-unbroken : (g : Graph) (p : List ℕ) → Certified g p → (h : Graph) → FullGraph (g .order) (g .starts) h → Smallest h → ¬ BrokenBy g p h
 smallest-unbroken g p c h f least b = least p (sound g p c h f b)
-
--- h breaks nothing that judging writes for a graph of its order and blocks, with any budget and any buffer
-abbrev pub Survives : Graph → Type 0
-Survives h =
-    (g : Graph) (budget : ℕ) (buffer : List ℤ) → FullGraph (g .order) (g .starts) h → SaysSmaller g budget buffer
-    → ¬ BreaksClause (pairs (g .order)) (written g budget buffer) (entryAt h)
 
 -- what has no permitted copy earlier survives
 pub smallest-survives : (h : Graph) → Smallest h → Survives h

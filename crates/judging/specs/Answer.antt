@@ -17,19 +17,20 @@ use Rattle.judging.specs.Judging.{walkAll, clauseOf, found, certificateO
 
 -- ---- the verdicts, by number
 
--- what a verdict tells: its code is 0 for none, 1 for smaller, 2 for cut, 128 and the number for a refusal
+-- what a verdict tells: its kind is 0 none, 1 smaller, 2 cut, 3 refused; a refusal has its number, 0 where nothing is refused
 pub record Told : Type 0 where
-  pub code : ℕ
+  pub kind : ℕ
+  pub refusal : ℕ
   pub row : ℕ
   pub column : ℕ
   pub steps : ℕ
   pub place : ℕ
 
 unfoldable pub told : Verdict → Told
-told (Smaller row column steps) = record { code = 1; row = row; column = column; steps = steps; place = 0 }
-told (Nothing steps) = record { code = 0; row = 0; column = 0; steps = steps; place = 0 }
-told (Cut steps) = record { code = 2; row = 0; column = 0; steps = steps; place = 0 }
-told (Refused number place) = record { code = 128 + number; row = 0; column = 0; steps = 0; place = place }
+told (Smaller row column steps) = record { kind = 1; refusal = 0; row = row; column = column; steps = steps; place = 0 }
+told (Nothing steps) = record { kind = 0; refusal = 0; row = 0; column = 0; steps = steps; place = 0 }
+told (Cut steps) = record { kind = 2; refusal = 0; row = 0; column = 0; steps = steps; place = 0 }
+told (Refused number place) = record { kind = 3; refusal = number; row = 0; column = 0; steps = 0; place = place }
 
 -- ---- the answer
 

@@ -1,3 +1,6 @@
 pub mod Judging
 pub mod Answer
+pub mod Certificates
+pub mod InWords
+pub mod Drawings
 pub mod Worked

@@ -9,7 +9,7 @@ use lib.ListN.{length, getD, drop, length-append, length-drop, List·getD-map}
 use lib.Seq.{drop-append-le, drop-append-seam, drop-drop, getD-drop, getD-append-seam}
 use Rattle.laws.specs.UpTo.{listUpTo}
 use Rattle.laws.specs.ListLaws.{map-append, getD-mem, mem-split, NoRepeats, no-repeats-of-map, countUp, countUp-append, countUp-getD, countUp-upTo, countUp-no-repeats}
-use Rattle.pairs.specs.Pairs.{Pair, pair, alongRow, fromRow, pairs, pairCount, number, pairOf}
+use Rattle.pairs.specs.Pairs.{Pair, pair, Between, alongRow, fromRow, pairs, pairCount, number, numberOf, pairOf}
 
 -- ---- matrices
 
@@ -23,12 +23,6 @@ abbrev pub entryOf : (ℕ → ℕ → ℕ) → Pair → ℕ
 entryOf a k = a (k .row) (k .column)
 
 -- ---- which pairs there are
-
--- k is a pair of the vertices low..high
-pub record Between (low high : ℕ) (k : Pair) : Type 0 where
-  pub from-low : low ≤ k .row
-  pub rising : k .row < k .column
-  pub to-high : k .column ≤ high
 
 -- k stands in row i, at one of the m columns from j on
 pub record Along (i j m : ℕ) (k : Pair) : Type 0 where
@@ -257,10 +251,6 @@ number-high n i j l r h =
     ∙ ap (λ (x : ℕ). x + length (fromRow (suc i) (n - suc i))) (alongRow-length i j (n + 1 - j))))
 
 -- ---- the numbers along the list
-
--- the number of the pair k
-abbrev pub numberOf : ℕ → Pair → ℕ
-numberOf n k = number n (k .row) (k .column)
 
 -- along a row the numbers follow one another
 along-numbers : (n i j m : ℕ) → i < j → map (numberOf n) (alongRow i j m) ≡ countUp (number n i j) m

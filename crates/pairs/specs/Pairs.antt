@@ -1,5 +1,5 @@
 -- The pairs i < j in row order, their numbers, and a count over them.
-use Prim.Native.Nat.{ℕ, zero, suc, _+_, _-_, _*_, _/_}
+use Prim.Native.Nat.{ℕ, zero, suc, _+_, _-_, _*_, _/_, _≤_, _<_}
 use mathlib.Core.Bool.{Bool}
 use mathlib.Core.List.{List, [], _∷_, _++_}
 use lib.ListN.{getD}
@@ -11,6 +11,12 @@ pub record Pair : Type 0 where
 
 abbrev pub pair : ℕ → ℕ → Pair
 pair i j = record { row = i; column = j }
+
+-- k is a pair of the vertices low..high
+pub record Between (low high : ℕ) (k : Pair) : Type 0 where
+  pub from-low : low ≤ k .row
+  pub rising : k .row < k .column
+  pub to-high : k .column ≤ high
 
 -- (i, j), (i, j + 1), ..: m pairs
 unfoldable pub alongRow : ℕ → ℕ → ℕ → List Pair
@@ -33,6 +39,9 @@ pairCount n = n * (n - 1) / 2
 -- the number of a pair, from 1
 abbrev pub number : ℕ → ℕ → ℕ → ℕ
 number n i j = (i - 1) * (2 * n - i) / 2 + (j - i)
+
+abbrev pub numberOf : ℕ → Pair → ℕ
+numberOf n k = number n (k .row) (k .column)
 
 -- the pair with number m
 abbrev pub pairOf : ℕ → ℕ → Pair

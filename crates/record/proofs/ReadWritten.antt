@@ -16,9 +16,9 @@ use Rattle.laws.specs.UpToLaws.{word-bit, word-past}
 use Rattle.graph.specs.Graph.{drawn}
 use Rattle.graph.specs.Answers.{noGraph}
 use Rattle.graph.specs.WellFormed.{WellFormed}
-use Rattle.pairs.specs.Pairs.{Pair, pairCount, number, pairOf}
+use Rattle.pairs.specs.Pairs.{Pair, pairCount, number, pairOf, Between}
 use Rattle.graph.specs.Counts.{entryAt}
-use Rattle.pairs.proofs.PairLaws.{Between, number-low, number-high, number-pairOf, pairOf-between}
+use Rattle.pairs.proofs.PairLaws.{number-low, number-high, number-pairOf, pairOf-between}
 use Rattle.rows.proofs.Mirrored.{mirrored-above}
 use Rattle.graph.proofs.Drawn.{drawn-entry, drawn-formed}
 use Rattle.record.specs.declared.Extent.{Extent}
