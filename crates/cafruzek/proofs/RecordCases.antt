@@ -1,13 +1,12 @@
 -- The answer of judging a record in each of its cases, as the code makes it.
-use Prim.Native.Nat.{ℕ, _+_, _≤_, _<_}
+use Prim.Native.Nat.{ℕ, _≤_, _<_}
 use native.Mathlib.Omega.{arith}
 use mathlib.Core.Path.{_≡_, ap, _∙_}
-use mathlib.Core.Bool.{true, false}
+use mathlib.Core.Bool.{true}
 use mathlib.Core.List.{List}
-use borrow.Author.Tests.{le-ltb, eq-eqb, ne-eqb}
+use borrow.Author.Tests.{eq-eqb, ne-eqb}
 use lib.IntN.{ℤ}
 use lib.ListN.{length}
-use lib.Dec.{ltb}
 use Rattle.laws.specs.Test.{pick}
 use Rattle.graph.specs.declared.Graph.{Graph}
 use Rattle.graph.specs.WellFormed.{wellFormed}
@@ -19,8 +18,9 @@ use Rattle.record.specs.Answers.{recordAt, readAnswer, writeAnswer, bufferAfter
 use Rattle.record.proofs.ReadWritten.{read-formed}
 use Rattle.judging.specs.declared.Judged.{Judged}
 use Rattle.judging.specs.Answer.{told, without, judgeAnswer, judgeBuffer}
-use Rattle.cafruzek.specs.Packing.{refusal, lowTold, packed, packedExtent, packedWritten}
-use Rattle.cafruzek.specs.Answers.{arrangedBy, arrangedAfter, judgeRecord, judgeRecordBuffer}
+use Rattle.packing.specs.Packing.{refusal, codeTold, lowTold, packed}
+use Rattle.packing.specs.Telling.{arrangedBy, arrangedAfter}
+use Rattle.cafruzek.specs.Answers.{judgeRecord, judgeRecordBuffer, packedExtent, packedWritten}
 use Rattle.cafruzek.proofs.Bounds.{extent-small, read-small, written-small}
 
 module _ (s : List ℕ) (r : Record) (is-r : r ≡ readAnswer s) where
@@ -38,10 +38,9 @@ module _ (s : List ℕ) (r : Record) (is-r : r ≡ readAnswer s) where
     module _ (ne : r .refusal ≡ 0 → ⊥) where
       -- is the answer
       pub unread-packed : (x : ℕ) → x ≡ refusal (r .refusal) (r .place) → x ≡ packed (judgeRecord s budget (length buffer))
-      unfolding judgeRecord pick without packed told lowTold refusal
+      unfolding judgeRecord pick without packed told codeTold lowTold refusal
       unread-packed x e =
-          let t : ltb (128 + r .refusal) 128 ≡ false = le-ltb (128 + r .refusal) 128 (omega arith) in
-          rw (e, ← is-r, ne-eqb (r .refusal) 0 ne, t)
+          rw (e, ← is-r, ne-eqb (r .refusal) 0 ne)
 
       -- the literals are as they were
       pub unread-buffer : buffer ≡ judgeRecordBuffer s budget buffer

@@ -1,2 +1,2 @@
-pub mod Packing
 pub mod Answers
+pub mod Calls

@@ -3,22 +3,19 @@
 // standing pair; 44..52 how many literals were written; 56..63 the code: 0 none, 1 smaller, 2 cut, 128 and the number of a
 // refusal.
 use graph::Graph;
-use judging::Judged;
-use judging::Verdict;
 use packing::counted;
-use packing::joined;
 use packing::refused;
+use packing::tell;
 use search::judge;
 use search::judge_checked;
 ghost use mathlib.Core.Path.{_≡_};
 ghost use lib.ListN.{length};
 ghost use Rattle.record.specs.Answers.{recordAt, writeAnswer, bufferAfter};
 ghost use Rattle.judging.specs.Answer.{judgeAnswer, judgeBuffer};
-ghost use Rattle.cafruzek.specs.Packing.{packed, packedExtent, packedWritten};
-ghost use Rattle.cafruzek.specs.Answers.{arrangedAfter, Judgement, judgeRecord, judgeRecordBuffer};
+ghost use Rattle.packing.specs.Packing.{packed};
+ghost use Rattle.packing.specs.Telling.{arrangedAfter};
+ghost use Rattle.cafruzek.specs.Answers.{judgeRecord, judgeRecordBuffer, packedExtent, packedWritten};
 ghost use Rattle.graph.specs.Graph.{graphOf};
-
-mod packing;
 
 // The graph value of these rows.
 fn graph_of<'a, 'b>(order: u32, edges: &'a [u32; 32], unknowns: &'b [u32; 32], starts: u32) -> Graph
@@ -31,24 +28,6 @@ fn graph_of<'a, 'b>(order: u32, edges: &'a [u32; 32], unknowns: &'b [u32; 32], s
         edges: e,
         unknowns: u,
         starts,
-    }
-}
-
-// Tells a judgement: the number, and the certificate of "smaller" in the arrangement.
-fn tell(answer: Judged, arrangement: &mut [u8; 32]) -> u64
-    requires { ⌜ Judgement answer ⌝ }
-    ensures { λ r. ⌜ (r ≡ packed answer) × (now (arrangement .exit) ≡ arrangedAfter answer (now (arrangement .entry))) ⌝ }
-{
-    let verdict = answer.verdict;
-    match verdict {
-        Verdict::Smaller { row, column, steps } => {
-            let certificate = answer.arrangement;
-            *arrangement = certificate;
-            joined(steps, row, column, answer.literals, 1)
-        }
-        Verdict::Nothing { steps } => joined(steps, 0, 0, 0, 0),
-        Verdict::Cut { steps } => joined(steps, 0, 0, 0, 2),
-        Verdict::Refused { number, place } => refused(number, place),
     }
 }
 

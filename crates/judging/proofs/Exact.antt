@@ -2,7 +2,7 @@
 use Prim.Native.Nat.{ℕ, _≤_, _<_}
 use native.Mathlib.Omega.{arith}
 use mathlib.Core.Path.{_≡_, refl, sym, ap, ap₂, subst, _∙_}
-use mathlib.Core.Logic.{_↔_}
+use mathlib.Core.Logic.{_↔_, _≢_}
 use mathlib.Core.Bool.{Bool, true, false}
 use mathlib.Core.List.{List}
 use lib.Dec.{leb}
@@ -95,6 +95,18 @@ module _ (g : Graph) (budget room : ℕ) where
         at (malformed no-graph) e = absurd (no-graph w)
         at (cramped v h) e = absurd (omega arith)
         at (cut-off v h l) e = l
+        at (none-smaller v h l nowhere) e = absurd (omega arith)
+        at (found-smaller v h l f) e = absurd (omega arith)
+
+    -- past both checks nothing is refused
+    pub not-refused : told (judgeAnswer g budget room .verdict) .kind ≢ 3
+    unfolding told without
+    not-refused = at judged-in-words
+      where
+        at : {a : Judged} → InWords g budget room a → told (a .verdict) .kind ≢ 3
+        at (malformed no-graph) e = absurd (no-graph w)
+        at (cramped v h) e = absurd (omega arith)
+        at (cut-off v h l) e = absurd (omega arith)
         at (none-smaller v h l nowhere) e = absurd (omega arith)
         at (found-smaller v h l f) e = absurd (omega arith)
 

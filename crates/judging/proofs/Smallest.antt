@@ -7,7 +7,7 @@ use mathlib.Core.List.{List, [], _∷_}
 use lib.ListN.{length}
 use Rattle.laws.specs.Each.{Each, each-rest, each-first}
 use Rattle.walk.specs.Walk.{won}
-use Rattle.walk.specs.Earlier.{Earlier}
+use Rattle.walk.specs.Earlier.{Earlier, LexLess}
 use Rattle.walk.proofs.Sound.{won-full}
 use Rattle.walk.proofs.Order.{earlier-none, earlier-cases}
 use Rattle.graph.specs.declared.Graph.{Graph}
@@ -16,14 +16,14 @@ use Rattle.graph.specs.WellFormed.{WellFormed, FullyDrawn}
 use Rattle.arrangements.specs.Arrangement.{at, Reordering, Permitted, composed}
 use Rattle.pairs.specs.Pairs.{Pair, pairs, pairCount}
 use Rattle.graph.specs.Counts.{entryAt}
-use Rattle.graph.specs.Order.{EarlierGraph}
+use Rattle.graph.specs.Order.{EarlierGraph, matrixWord}
 use Rattle.rows.proofs.Placed.{placed-at}
 use Rattle.graph.proofs.Drawn.{same-graph}
 use Rattle.arrangements.proofs.Composing.{identity, identity-permitted, composed-at, composed-permitted}
 use Rattle.graph.proofs.Relabelling.{relabelled-order, relabelled-starts, relabelled-entry, relabelled-formed, relabelled-drawn}
 use Rattle.judging.specs.declared.Judged.{Judged}
 use Rattle.judging.specs.Judging.{image, walkAll, stepsFor}
-use Rattle.judging.specs.Answer.{told, judgeAnswer}
+use Rattle.judging.specs.Answer.{told, without, judgeAnswer}
 use Rattle.judging.specs.Certificates.{Certified}
 use Rattle.judging.specs.InWords.{InWords, malformed, cramped, cut-off, none-smaller, found-smaller}
 use Rattle.judging.specs.Drawings.{EarlierCopy, Smallest, SmallestBy}
@@ -31,7 +31,7 @@ use Rattle.judging.proofs.Arrangements.{samePair-tells}
 use Rattle.judging.proofs.Judgements.{walk-stands}
 use Rattle.judging.proofs.Certificates.{first-certified}
 use Rattle.judging.proofs.Exact.{judged-in-words, exact-none}
-use Rattle.judging.proofs.Sound.{copy-earlier}
+use Rattle.judging.proofs.Sound.{copy-earlier, copy-published}
 
 module _ (g : Graph) (w : WellFormed g) (d : FullyDrawn g) where
   standing-earlier : (p : List ℕ) → ((k : Pair) × (walkAll g p ≡ won k)) ↔ EarlierGraph (relabelled g p) g
@@ -48,13 +48,26 @@ module _ (g : Graph) (w : WellFormed g) (d : FullyDrawn g) where
     λ e. let k = standing-earlier p .1 (e .earlier) in record { permitted = e .permitted; pair = k .0; standing = walk-stands g p (k .0) .0 (k .1) },
   )
 
-  -- so with room and budget enough, "none" says that no permitted renumbering comes earlier, and nothing else does
+  -- so what is told "none", whatever the room and the budget, has no permitted renumbering that comes earlier
+  pub none-tells : (budget room : ℕ) → told (judgeAnswer g budget room .verdict) .kind ≡ 0 → Smallest g
+  unfolding told without
+  none-tells budget room = at (judged-in-words g budget room)
+    where
+      at : {a : Judged} → InWords g budget room a → told (a .verdict) .kind ≡ 0 → Smallest g
+      at (malformed no-graph) e = absurd (omega arith)
+      at (cramped v h) e = absurd (omega arith)
+      at (cut-off v h l) e = absurd (omega arith)
+      at (none-smaller v h l nowhere) e = λ p copy. nowhere p (certified-earlier p .1 copy)
+      at (found-smaller v h l f) e = absurd (omega arith)
+
+  -- in the published order of whole rows too
+  pub none-published : (budget room : ℕ) → told (judgeAnswer g budget room .verdict) .kind ≡ 0
+      → (p : List ℕ) → Permitted (g .order) (g .starts) p → ¬ LexLess (matrixWord (relabelled g p)) (matrixWord g)
+  none-published budget room e p a less = none-tells budget room e p (record { permitted = a; earlier = copy-published g w d p .0 less })
+
+  -- and with room and budget enough nothing else is told of such a graph
   pub none-smallest : (budget room : ℕ) → pairCount (g .order) ≤ room → stepsFor g ≤ budget → (told (judgeAnswer g budget room .verdict) .kind ≡ 0) ↔ Smallest g
-  none-smallest budget room enough reach =
-      let none = exact-none g budget room w enough reach in (
-        λ e p copy. none .0 e p (certified-earlier p .1 copy),
-        λ least. none .1 (λ p c. least p (certified-earlier p .0 c)),
-      )
+  none-smallest budget room enough reach = (none-tells budget room, λ least. exact-none g budget room w enough reach .1 (λ p c. least p (certified-earlier p .0 c)))
 
 -- ---- copies of copies
 

@@ -107,3 +107,8 @@ module _ (g : Graph) (budget : ℕ) (buffer : List ℤ) (says : SaysSmaller g bu
   written-sound h f b =
       sound g (judgeAnswer g budget (length buffer) .arrangement) (smaller-certified g budget (length buffer) says) h f
       (subst (λ (lits : List ℤ). BreaksClause (pairs (g .order)) lits (entryAt h)) written-is b)
+
+  -- and in the published order
+  pub written-published : (h : Graph) → FullGraph (g .order) (g .starts) h → BreaksClause (pairs (g .order)) (written g budget buffer) (entryAt h)
+      → LexLess (matrixWord (relabelled h (judgeAnswer g budget (length buffer) .arrangement))) (matrixWord h)
+  written-published h f b = copy-published h (f .formed) (f .full) (judgeAnswer g budget (length buffer) .arrangement) .1 (written-sound h f b .earlier)

@@ -1,5 +1,5 @@
 use borrow.Author.Needs.{needs}
-use Rattle.cafruzek.proofs.JudgeCases.{is-judgement}
+use Rattle.packing.proofs.JudgeCases.{is-judgement}
 use Rattle.cafruzek.proofs.RecordCases.{read-number, read-checked, unread-packed, unread-buffer, unread-arranged, read-packed, read-buffer, read-arranged}
 use Rattle.cafruzek.proofs.cafruzek_judge_record.Statement.{statement}
 use Rattle.cafruzek.proofs.cafruzek_judge_record.Tie as tie

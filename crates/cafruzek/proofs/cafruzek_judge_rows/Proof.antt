@@ -1,5 +1,6 @@
 use borrow.Author.Needs.{needs}
-use Rattle.cafruzek.proofs.JudgeCases.{is-judgement, rows-packed, rows-buffer, rows-arranged}
+use Rattle.packing.proofs.JudgeCases.{is-judgement}
+use Rattle.cafruzek.proofs.JudgeCases.{rows-packed, rows-buffer, rows-arranged}
 use Rattle.cafruzek.proofs.cafruzek_judge_rows.Statement.{statement}
 use Rattle.cafruzek.proofs.cafruzek_judge_rows.Tie as tie
 

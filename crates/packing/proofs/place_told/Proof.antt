@@ -1,7 +1,7 @@
 use borrow.Author.Needs.{needs}
-use Rattle.cafruzek.proofs.PackingCases.{place-kept, place-capped}
-use Rattle.cafruzek.proofs.packing.place_told.Statement.{statement}
-use Rattle.cafruzek.proofs.packing.place_told.Tie as tie
+use Rattle.packing.proofs.PackingCases.{place-kept, place-capped}
+use Rattle.packing.proofs.place_told.Statement.{statement}
+use Rattle.packing.proofs.place_told.Tie as tie
 
 cast-result : tie.Need-cast-result
 cast-result c = search needs

@@ -1,7 +1,7 @@
 use borrow.Author.Needs.{needs}
-use Rattle.cafruzek.specs.Packing.{fields}
-use Rattle.cafruzek.proofs.packing.joined.Statement.{statement}
-use Rattle.cafruzek.proofs.packing.joined.Tie as tie
+use Rattle.packing.specs.Packing.{fields}
+use Rattle.packing.proofs.joined.Statement.{statement}
+use Rattle.packing.proofs.joined.Tie as tie
 
 add-result : tie.Need-add-result
 add-result c = search needs

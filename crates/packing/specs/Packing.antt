@@ -1,10 +1,8 @@
 -- One number that holds an answer: bits 0..31 the steps or a place, 32..37 the row, 38..43 the column, 44..52 the number of
 -- literals, 56..63 the code.
 use Prim.Native.Nat.{ℕ, _+_, _*_, _/_, _%_, _^_}
-use lib.Dec.{eqb, leb, ltb}
+use lib.Dec.{eqb, leb}
 use Rattle.laws.specs.Test.{pick}
-use Rattle.record.specs.declared.Extent.{Extent}
-use Rattle.record.specs.declared.Written.{Written}
 use Rattle.judging.specs.declared.Judged.{Judged}
 use Rattle.judging.specs.Answer.{Told, told}
 
@@ -44,22 +42,18 @@ placeTold place = pick (leb place 4294967295) place 4294967295
 unfoldable pub refusal : ℕ → ℕ → ℕ
 refusal number place = fields (placeTold place) 0 0 0 (128 + number)
 
--- what stands in bits 0..31: the steps, and for a refusal the place
+-- the code: 128 and the number for a refusal, else the verdict's kind
+unfoldable pub codeTold : Told → ℕ
+codeTold t = pick (eqb (t .kind) 3) (128 + t .refusal) (t .kind)
+
+-- what stands in bits 0..31: the place for a refusal, else the steps
 unfoldable pub lowTold : Told → ℕ
-lowTold t = pick (ltb (t .code) 128) (t .steps) (placeTold (t .place))
+lowTold t = pick (eqb (t .kind) 3) (placeTold (t .place)) (t .steps)
 
 -- a judgement
 unfoldable pub packed : Judged → ℕ
-packed a = let t = told (a .verdict) in fields (lowTold t) (t .row) (t .column) (a .literals) (t .code)
+packed a = let t = told (a .verdict) in fields (lowTold t) (t .row) (t .column) (a .literals) (codeTold t)
 
 -- a number of bytes, or the refusal where its number is not 0
 unfoldable pub counted : ℕ → ℕ → ℕ → ℕ
 counted number place count = pick (eqb number 0) (fields count 0 0 0 0) (refusal number place)
-
--- how many bytes a record takes
-abbrev pub packedExtent : Extent → ℕ
-packedExtent x = counted (x .refusal) (x .place) (x .bytes)
-
--- how many bytes were written
-abbrev pub packedWritten : Written → ℕ
-packedWritten x = counted (x .refusal) (x .place) (x .written)

@@ -2,7 +2,7 @@
 use Prim.Native.Nat.{ℕ, _^_, _<_}
 use native.Mathlib.Omega.{arith}
 use mathlib.Core.Path.{_≡_}
-use Rattle.cafruzek.specs.Packing.{fields, bitsFrom, lowIn, rowIn, columnIn, literalsIn, codeIn}
+use Rattle.packing.specs.Packing.{fields, bitsFrom, lowIn, rowIn, columnIn, literalsIn, codeIn}
 
 -- fields that fit their places
 pub record Fitting (low row column literals code : ℕ) : Type 0 where

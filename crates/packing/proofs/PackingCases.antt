@@ -4,7 +4,7 @@ use mathlib.Core.Path.{_≡_, sym, _∙_}
 use borrow.Author.Tests.{le-leb, lt-leb, eq-eqb, ne-eqb}
 use lib.Dec.{leb, eqb}
 use Rattle.laws.specs.TestLaws.{pick-true, pick-false}
-use Rattle.cafruzek.specs.Packing.{fields, placeTold, refusal, counted}
+use Rattle.packing.specs.Packing.{fields, placeTold, refusal, counted}
 
 -- a place of 32 bits is kept
 pub place-kept : (place : ℕ) → place ≤ 4294967295 → place ≡ placeTold place

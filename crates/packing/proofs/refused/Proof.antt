@@ -1,7 +1,7 @@
 use borrow.Author.Needs.{needs}
-use Rattle.cafruzek.proofs.PackingCases.{refusal-made}
-use Rattle.cafruzek.proofs.packing.refused.Statement.{statement}
-use Rattle.cafruzek.proofs.packing.refused.Tie as tie
+use Rattle.packing.proofs.PackingCases.{refusal-made}
+use Rattle.packing.proofs.refused.Statement.{statement}
+use Rattle.packing.proofs.refused.Tie as tie
 
 place-told-requires : tie.Need-place-told-requires
 place-told-requires c κs = search needs

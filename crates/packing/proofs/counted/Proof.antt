@@ -1,7 +1,7 @@
 use borrow.Author.Needs.{needs}
-use Rattle.cafruzek.proofs.PackingCases.{counted-bytes, counted-refusal}
-use Rattle.cafruzek.proofs.packing.counted.Statement.{statement}
-use Rattle.cafruzek.proofs.packing.counted.Tie as tie
+use Rattle.packing.proofs.PackingCases.{counted-bytes, counted-refusal}
+use Rattle.packing.proofs.counted.Statement.{statement}
+use Rattle.packing.proofs.counted.Tie as tie
 
 cast-joined : tie.Need-cast-joined
 cast-joined c = search needs

@@ -1,7 +1,7 @@
 use borrow.Author.Needs.{needs}
-use Rattle.cafruzek.proofs.JudgeCases.{literals-fit, smaller-row, smaller-column, smaller-packed, smaller-arranged, none-packed, none-arranged, cut-packed, cut-arranged, refusal-number, refusal-packed, refusal-arranged}
-use Rattle.cafruzek.proofs.tell.Statement.{statement}
-use Rattle.cafruzek.proofs.tell.Tie as tie
+use Rattle.packing.proofs.JudgeCases.{literals-fit, smaller-row, smaller-column, smaller-packed, smaller-arranged, none-packed, none-arranged, cut-packed, cut-arranged, refusal-number, refusal-packed, refusal-arranged}
+use Rattle.packing.proofs.tell.Statement.{statement}
+use Rattle.packing.proofs.tell.Tie as tie
 
 enum-known-verdict : tie.Need-enum-known-verdict
 enum-known-verdict c = search needs
