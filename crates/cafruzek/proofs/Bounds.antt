@@ -10,10 +10,12 @@ use lib.Dec.{eqb, leb, ltb}
 use Rattle.laws.specs.Test.{pick, unless}
 use Rattle.laws.specs.Num.{num-below}
 use Rattle.graph.specs.declared.Graph.{Graph}
-use Rattle.graph.specs.WellFormed.{wellFormed, orderFits}
+use Rattle.graph.specs.WellFormed.{wellFormed}
+use Rattle.pairs.specs.Vertices.{orderFits}
 use Rattle.pairs.specs.Pairs.{Pair, pairs, pairCount}
 use Rattle.graph.specs.Counts.{entryAt}
-use Rattle.graph.proofs.Formed.{formed, order-in-range}
+use Rattle.graph.proofs.Formed.{formed}
+use Rattle.pairs.proofs.VertexLaws.{order-in-range}
 use Rattle.pairs.proofs.PairLaws.{Between, pairs-given, pairCount-mono}
 use Rattle.record.specs.declared.Extent.{Extent}
 use Rattle.record.specs.declared.Written.{Written}

@@ -1,9 +1,8 @@
 -- The full answer of each public function, with its refusals by number and place, in the order of their checks.
 use Prim.Native.Nat.{ℕ}
-use mathlib.Core.Bool.{Bool, not}
 use mathlib.Core.List.{List}
 use lib.ListN.{replicate}
-use lib.Dec.{leb, eqb}
+use lib.Dec.{leb}
 use Rattle.laws.specs.Test.{both, unless}
 use Rattle.graph.specs.declared.Graph.{Graph}
 use Rattle.graph.specs.declared.Reading.{Reading}
@@ -12,16 +11,10 @@ use Rattle.graph.specs.declared.Totals.{Totals}
 use Rattle.graph.specs.declared.Degree.{Degree}
 use Rattle.graph.specs.declared.Arrangement.{Arrangement}
 use Rattle.graph.specs.Graph.{entry, withEntry, relabelled}
-use Rattle.graph.specs.WellFormed.{wellFormed, orderFits}
+use Rattle.graph.specs.WellFormed.{wellFormed}
+use Rattle.pairs.specs.Vertices.{orderFits, isVertex, isPair}
 use Rattle.graph.specs.Counts.{pairsWith, edgesAt}
 use Rattle.arrangements.specs.Arrangement.{isReordering, isPermitted, composed, inverse}
-
--- 7: vertex 0, a vertex above n, or i = j
-unfoldable pub isVertex : ℕ → ℕ → Bool
-isVertex n v = both (leb 1 v) (leb v n)
-
-unfoldable pub isPair : ℕ → ℕ → ℕ → Bool
-isPair n i j = both (isVertex n i) (both (isVertex n j) (not (eqb i j)))
 
 -- ---- entries
 

@@ -1,13 +1,16 @@
 // Graph values, their entries, blocks and counts; arrangements. Vertices and places are numbered from 1.
 ghost use mathlib.Core.Path.{_≡_};
 ghost use lib.ListN.{replicate};
-ghost use Rattle.graph.specs.WellFormed.{wellFormed, orderFits};
-ghost use Rattle.graph.specs.Answers.{isVertex, isPair, noGraph, changed, arrangement, readAnswer, setAnswer, countAnswer, degreeAnswer, relabelAnswer, composeAnswer, invertAnswer};
+ghost use Rattle.graph.specs.WellFormed.{wellFormed};
+ghost use Rattle.graph.specs.Answers.{noGraph, changed, arrangement, readAnswer, setAnswer, countAnswer, degreeAnswer, relabelAnswer, composeAnswer, invertAnswer};
 use arrangements::composed::composed_of;
 use arrangements::composed::inverse_of;
 use arrangements::moved::moved_rows;
 use arrangements::permitted::is_permitted;
 use arrangements::reordering::is_reordering;
+use pairs::vertices::is_pair;
+use pairs::vertices::is_vertex;
+use pairs::vertices::order_fits;
 use rows::entries::entry_in;
 use rows::entries::mark;
 use rows::entries::ones_at;
@@ -61,39 +64,6 @@ pub struct Arrangement {
     pub refusal: u32,
     pub place: usize,
     pub vertices: [u8; 32],
-}
-
-// Is it an order that a graph may have?
-pub fn order_fits(order: u32) -> bool
-    ensures { λ r. ⌜ r ≡ orderFits order ⌝ }
-{
-    if order < 1 {
-        return false;
-    }
-    order <= 32
-}
-
-// Is v a vertex of a graph of order n?
-pub fn is_vertex(n: u32, v: u32) -> bool
-    ensures { λ r. ⌜ r ≡ isVertex n v ⌝ }
-{
-    if v < 1 {
-        return false;
-    }
-    v <= n
-}
-
-// Are i and j two vertices of a graph of order n?
-pub fn is_pair(n: u32, i: u32, j: u32) -> bool
-    ensures { λ r. ⌜ r ≡ isPair n i j ⌝ }
-{
-    if is_vertex(n, i) {
-        if is_vertex(n, j) {
-            return i != j;
-        }
-        return false;
-    }
-    false
 }
 
 impl Graph {

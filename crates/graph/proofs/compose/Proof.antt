@@ -1,7 +1,8 @@
 use borrow.Author.Needs.{needs}
 use Rattle.arrangements.proofs.CodeTests.{known-reordering}
 use Rattle.laws.specs.TestLaws.{refused, passed, first-refused, first-held}
-use Rattle.graph.proofs.CodeAnswers.{order-most, arranged-is}
+use Rattle.graph.proofs.CodeAnswers.{arranged-is}
+use Rattle.pairs.proofs.VertexLaws.{order-most}
 use Rattle.graph.specs.Answers.{composeAnswer}
 use Rattle.graph.proofs.compose.Statement.{statement}
 use Rattle.graph.proofs.compose.Tie as tie

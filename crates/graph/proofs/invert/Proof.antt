@@ -1,6 +1,7 @@
 use borrow.Author.Needs.{needs}
 use Rattle.laws.specs.TestLaws.{refused, passed}
-use Rattle.graph.proofs.CodeAnswers.{order-most, arranged-is}
+use Rattle.graph.proofs.CodeAnswers.{arranged-is}
+use Rattle.pairs.proofs.VertexLaws.{order-most}
 use Rattle.arrangements.proofs.CodeTests.{known-reordering}
 use Rattle.graph.specs.Answers.{invertAnswer}
 use Rattle.graph.proofs.invert.Statement.{statement}

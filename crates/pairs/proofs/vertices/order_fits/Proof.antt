@@ -1,7 +1,7 @@
 use borrow.Author.Needs.{needs}
-use Rattle.graph.proofs.CodeAnswers.{order-zero, order-some}
-use Rattle.graph.proofs.order_fits.Statement.{statement}
-use Rattle.graph.proofs.order_fits.Tie as tie
+use Rattle.pairs.proofs.VertexLaws.{order-zero, order-some}
+use Rattle.pairs.proofs.vertices.order_fits.Statement.{statement}
+use Rattle.pairs.proofs.vertices.order_fits.Tie as tie
 
 returns : tie.Need-returns
 returns c = search (order-zero, needs)

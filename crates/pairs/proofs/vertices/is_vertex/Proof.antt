@@ -1,7 +1,7 @@
 use borrow.Author.Needs.{needs}
-use Rattle.graph.proofs.CodeAnswers.{vertex-zero, vertex-some}
-use Rattle.graph.proofs.is_vertex.Statement.{statement}
-use Rattle.graph.proofs.is_vertex.Tie as tie
+use Rattle.pairs.proofs.VertexLaws.{vertex-zero, vertex-some}
+use Rattle.pairs.proofs.vertices.is_vertex.Statement.{statement}
+use Rattle.pairs.proofs.vertices.is_vertex.Tie as tie
 
 returns : tie.Need-returns
 returns c = search (vertex-zero, needs)

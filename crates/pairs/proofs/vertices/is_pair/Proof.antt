@@ -1,8 +1,8 @@
 use borrow.Author.Needs.{needs}
 use Rattle.laws.specs.TestLaws.{first-failed, first-held}
-use Rattle.graph.specs.Answers.{isPair}
-use Rattle.graph.proofs.is_pair.Statement.{statement}
-use Rattle.graph.proofs.is_pair.Tie as tie
+use Rattle.pairs.specs.Vertices.{isPair}
+use Rattle.pairs.proofs.vertices.is_pair.Statement.{statement}
+use Rattle.pairs.proofs.vertices.is_pair.Tie as tie
 
 is-vertex-requires : tie.Need-is-vertex-requires
 is-vertex-requires c κs = search needs
