@@ -14,7 +14,6 @@ use Rattle.laws.specs.UpTo.{allUpTo, sumUpTo}
 use Rattle.laws.specs.UpToLaws.{word-same}
 use Rattle.graph.specs.declared.Graph.{Graph}
 use Rattle.graph.specs.declared.Change.{Change}
-use Rattle.graph.specs.declared.Arrangement.{Arrangement}
 use Rattle.rows.specs.Rows.{withMark, onesAt, placed}
 use Rattle.graph.specs.Graph.{withEntry, relabelled}
 use Rattle.graph.specs.WellFormed.{WellFormed, wellFormed}
@@ -23,7 +22,7 @@ use Rattle.pairs.proofs.VertexLaws.{vertex-low, vertex-high, row-vertex, column
 use Rattle.rows.specs.Fits.{startsFit, rowFits}
 use Rattle.graph.specs.Counts.{pairsWith, edgesAt}
 use Rattle.arrangements.specs.Arrangement.{at, isReordering, isPermitted, staysInBlock, movedBit, movedRow}
-use Rattle.graph.specs.Answers.{noGraph, reading, changed, totals, degree, arrangement}
+use Rattle.graph.specs.Answers.{noGraph, reading, changed, totals, degree}
 use Rattle.graph.proofs.Formed.{formed}
 use Rattle.graph.proofs.CountLaws.{edges-half, unknowns-half, all-counted, non-edges-left, edgesAt-ones}
 use Rattle.rows.proofs.Placed.{placed-same}
@@ -136,9 +135,6 @@ value-held value h = sym (le-leb value 2 h)
 
 pub value-failed : (value : ℕ) → 2 < value → false ≡ leb value 2
 value-failed value h = sym (lt-leb value 2 h)
-
-pub arranged-is : (r : Arrangement) (x y : List ℕ) → r ≡ arrangement 0 0 x → x ≡ y → r ≡ arrangement 0 0 y
-arranged-is r x y p q = p ∙ ap (arrangement 0 0) q
 
 pub permitted-reorders : (n starts : ℕ) (p : List ℕ) (r : Bool) → r ≡ isPermitted n starts p → r ≡ true → isReordering n p ≡ true
 unfolding isPermitted

@@ -1,11 +1,11 @@
 use borrow.Author.Needs.{needs}
 use Rattle.arrangements.proofs.CodeTests.{known-reordering}
 use Rattle.laws.specs.TestLaws.{refused, passed, first-refused, first-held}
-use Rattle.graph.proofs.CodeAnswers.{arranged-is}
+use Rattle.composing.proofs.CodeAnswers.{arranged-is}
 use Rattle.pairs.proofs.VertexLaws.{order-most}
-use Rattle.graph.specs.Answers.{composeAnswer}
-use Rattle.graph.proofs.compose.Statement.{statement}
-use Rattle.graph.proofs.compose.Tie as tie
+use Rattle.composing.specs.Answers.{composeAnswer}
+use Rattle.composing.proofs.compose.Statement.{statement}
+use Rattle.composing.proofs.compose.Tie as tie
 
 order-fits-requires : tie.Need-order-fits-requires
 order-fits-requires c κs = search needs

@@ -1,11 +1,11 @@
 use borrow.Author.Needs.{needs}
 use Rattle.laws.specs.TestLaws.{refused, passed}
-use Rattle.graph.proofs.CodeAnswers.{arranged-is}
+use Rattle.composing.proofs.CodeAnswers.{arranged-is}
 use Rattle.pairs.proofs.VertexLaws.{order-most}
 use Rattle.arrangements.proofs.CodeTests.{known-reordering}
-use Rattle.graph.specs.Answers.{invertAnswer}
-use Rattle.graph.proofs.invert.Statement.{statement}
-use Rattle.graph.proofs.invert.Tie as tie
+use Rattle.composing.specs.Answers.{invertAnswer}
+use Rattle.composing.proofs.invert.Statement.{statement}
+use Rattle.composing.proofs.invert.Tie as tie
 
 order-fits-requires : tie.Need-order-fits-requires
 order-fits-requires c κs = search needs
