@@ -24,10 +24,6 @@ pub record WellFormed (g : Graph) : Type 0 where
   pub first-starts : startAt (g .starts) 1 ≡ 1
   pub no-start-past : (v : ℕ) → g .order < v → startAt (g .starts) v ≡ 0
 
--- no unknown entry
-pub record FullyDrawn (g : Graph) : Type 0 where
-  pub known : (i j : ℕ) → entry g i j ≤ 1
-
 -- ---- the test
 
 unfoldable pub wellFormed : Graph → Bool

@@ -5,7 +5,8 @@ use lib.IntN.{ℤ}
 use lib.ListN.{length}
 use Rattle.walk.specs.Clause.{BreaksClause}
 use Rattle.graph.specs.declared.Graph.{Graph}
-use Rattle.graph.specs.WellFormed.{WellFormed, FullyDrawn}
+use Rattle.graph.specs.WellFormed.{WellFormed}
+use Rattle.judging.specs.Order.{FullyDrawn}
 use Rattle.arrangements.specs.Arrangement.{Permitted}
 use Rattle.graph.specs.Graph.{relabelled}
 use Rattle.pairs.specs.Pairs.{pairs}

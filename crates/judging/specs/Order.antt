@@ -1,12 +1,16 @@
 -- Which of two fully drawn graphs of equal order is the earlier: by the first pair where they differ, and, as published, by the rows of the matrix.
-use Prim.Native.Nat.{ℕ, zero, suc}
+use Prim.Native.Nat.{ℕ, zero, suc, _≤_}
 use mathlib.Core.List.{List, [], _++_}
 use Rattle.laws.specs.UpTo.{listUpTo}
 use Rattle.walk.specs.Earlier.{Earlier}
 use Rattle.graph.specs.declared.Graph.{Graph}
 use Rattle.graph.specs.Graph.{entry}
 use Rattle.pairs.specs.Pairs.{pairs}
 use Rattle.graph.specs.Counts.{entryAt}
+
+-- no unknown entry
+pub record FullyDrawn (g : Graph) : Type 0 where
+  pub known : (i j : ℕ) → entry g i j ≤ 1
 
 -- of two fully drawn graphs of equal order, g is the earlier
 abbrev pub EarlierGraph : Graph → Graph → Type 0

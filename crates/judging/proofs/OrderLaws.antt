@@ -9,12 +9,12 @@ use Rattle.laws.specs.UpTo.{listUpTo}
 use Rattle.laws.specs.ListLaws.{map-append}
 use Rattle.walk.specs.Earlier.{LexLess}
 use Rattle.walk.proofs.Order.{earlier-lexicographic}
 use Rattle.graph.specs.declared.Graph.{Graph}
 use Rattle.graph.specs.Graph.{entry}
-use Rattle.graph.specs.WellFormed.{WellFormed, FullyDrawn}
+use Rattle.graph.specs.WellFormed.{WellFormed}
 use Rattle.pairs.specs.Pairs.{Pair, pair, alongRow, fromRow, pairs}
 use Rattle.graph.specs.Counts.{entryAt}
-use Rattle.graph.specs.Order.{EarlierGraph, rowsJoined, matrixWord}
+use Rattle.judging.specs.Order.{EarlierGraph, rowsJoined, matrixWord, FullyDrawn}
 use Rattle.pairs.proofs.PairLaws.{Mirrored, entryOf, alongRow-append, fromRow-split, along-given, along-has}
 
 module _ (x y : Pair → ℕ) where
