@@ -10,9 +10,11 @@ use lib.Dec.{eqb, leb}
 use Rattle.laws.specs.Test.{pick, unless}
 use Rattle.laws.specs.Num.{num-below}
 use Rattle.graph.specs.declared.Graph.{Graph}
-use Rattle.graph.specs.WellFormed.{wellFormed, orderFits}
+use Rattle.graph.specs.WellFormed.{wellFormed}
+use Rattle.pairs.specs.Vertices.{orderFits}
 use Rattle.pairs.specs.Pairs.{pairCount}
-use Rattle.graph.proofs.Formed.{formed, order-in-range}
+use Rattle.graph.proofs.Formed.{formed}
+use Rattle.pairs.proofs.VertexLaws.{order-in-range}
 use Rattle.pairs.proofs.PairLaws.{pairCount-mono}
 use Rattle.record.specs.declared.Extent.{Extent}
 use Rattle.record.specs.declared.Written.{Written}

@@ -12,9 +12,9 @@ use Rattle.walk.specs.Clause.{BreaksClause}
 use Rattle.walk.specs.Earlier.{LexLess}
 use Rattle.graph.specs.declared.Graph.{Graph}
 use Rattle.graph.specs.Graph.{relabelled}
-use Rattle.graph.specs.WellFormed.{WellFormed, FullyDrawn}
+use Rattle.graph.specs.WellFormed.{WellFormed}
+use Rattle.judging.specs.Order.{FullyDrawn, matrixWord}
 use Rattle.graph.specs.Counts.{entryAt}
-use Rattle.graph.specs.Order.{matrixWord}
 use Rattle.pairs.specs.Pairs.{pairs, pairCount}
 use Rattle.record.specs.Answers.{readAnswer}
 use Rattle.judging.specs.declared.Verdict.the-variants.{Refused}

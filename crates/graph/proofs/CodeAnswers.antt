@@ -3,53 +3,31 @@ use Prim.Native.Nat.{ℕ, _-_, _*_, _/_, _%_, _^_, _≤_, _<_}
 use native.Mathlib.Nat.{lt-of-le-of-lt, mul-le-mul}
 use native.Mathlib.Omega.{arith}
 use mathlib.Core.Path.{_≡_, refl, sym, ap, ap₂, _∙_}
-use mathlib.Core.Logic.{_≢_}
-use mathlib.Core.Bool.{Bool, true, false, not}
+use mathlib.Core.Bool.{Bool, true, false}
 use mathlib.Core.List.{List}
 use lib.ListN.{length}
-use lib.Dec.{leb, eqb, lit<}
-use borrow.Author.Tests.{eq-eqb, le-leb, lt-leb, leb-true, eqb-false, not-true}
+use lib.Dec.{leb, lit<}
+use borrow.Author.Tests.{eq-eqb, le-leb, lt-leb}
 use Rattle.laws.specs.Test.{both}
-use Rattle.laws.specs.TestLaws.{both-first, both-second}
+use Rattle.laws.specs.TestLaws.{both-first}
 use Rattle.laws.specs.UpTo.{allUpTo, sumUpTo}
 use Rattle.laws.specs.UpToLaws.{word-same}
 use Rattle.graph.specs.declared.Graph.{Graph}
 use Rattle.graph.specs.declared.Change.{Change}
-use Rattle.graph.specs.declared.Arrangement.{Arrangement}
 use Rattle.rows.specs.Rows.{withMark, onesAt, placed}
 use Rattle.graph.specs.Graph.{withEntry, relabelled}
-use Rattle.graph.specs.WellFormed.{WellFormed, wellFormed, orderFits}
+use Rattle.graph.specs.WellFormed.{WellFormed, wellFormed}
+use Rattle.pairs.specs.Vertices.{orderFits, isVertex, isPair}
+use Rattle.pairs.proofs.VertexLaws.{vertex-low, vertex-high, row-vertex, column-vertex}
 use Rattle.rows.specs.Fits.{startsFit, rowFits}
 use Rattle.graph.specs.Counts.{pairsWith, edgesAt}
 use Rattle.arrangements.specs.Arrangement.{at, isReordering, isPermitted, staysInBlock, movedBit, movedRow}
-use Rattle.graph.specs.Answers.{isVertex, isPair, noGraph, reading, changed, totals, degree, arrangement}
+use Rattle.graph.specs.Answers.{noGraph, reading, changed, totals, degree}
 use Rattle.graph.proofs.Formed.{formed}
 use Rattle.graph.proofs.CountLaws.{edges-half, unknowns-half, all-counted, non-edges-left, edgesAt-ones}
 use Rattle.rows.proofs.Placed.{placed-same}
 use Rattle.graph.proofs.Rows.{edge-bit, unknown-bit}
 use Rattle.graph.proofs.Relabelling.{brought, broughtEdges, broughtUnknowns, relabelled-built}
-
--- ---- orders and vertices
-
-pub order-zero : (order : ℕ) → order < 1 → false ≡ orderFits order
-unfolding orderFits both
-order-zero order h = rw (lt-leb 1 order h)
-
-pub order-some : (order : ℕ) → 1 ≤ order → leb order 32 ≡ orderFits order
-unfolding orderFits both
-order-some order h = rw (le-leb 1 order h)
-
-pub vertex-zero : (n v : ℕ) → v < 1 → false ≡ isVertex n v
-unfolding isVertex both
-vertex-zero n v h = rw (lt-leb 1 v h)
-
-pub vertex-some : (n v : ℕ) → 1 ≤ v → leb v n ≡ isVertex n v
-unfolding isVertex both
-vertex-some n v h = rw (le-leb 1 v h)
-
-pub order-most : (order : ℕ) (b : Bool) → b ≡ orderFits order → b ≡ true → order ≤ 32
-unfolding orderFits
-order-most order b e h = leb-true order 32 (both-second (leb 1 order) (leb order 32) (sym e ∙ h))
 
 -- ---- well-formedness, from its parts
 
@@ -80,47 +58,19 @@ module _ (g : Graph) (b : Bool) (e : b ≡ wellFormed g) (h : b ≡ true) where
   order-high = formed-by-test .order-high
 
   module _ (v : ℕ) (c : Bool) (p : c ≡ isVertex (g .order) v) (q : c ≡ true) where
-    pub vertex-low : 1 ≤ v
-    unfolding isVertex
-    vertex-low = leb-true 1 v (both-first (leb 1 v) (leb v (g .order)) (sym p ∙ q))
-
-    vertex-high : v ≤ g .order
-    unfolding isVertex
-    vertex-high = leb-true v (g .order) (both-second (leb 1 v) (leb v (g .order)) (sym p ∙ q))
-
     pub vertex-most : v ≤ 32
-    vertex-most = omega (arith, order-high, vertex-high)
+    vertex-most = omega (arith, order-high, vertex-high (g .order) v c p q)
 
     pub degree-is : (r : ℕ) → r ≡ onesAt (g .edges) v → degree 0 r ≡ degree 0 (edgesAt g v)
     unfolding onesAt
-    degree-is r k = ap (degree 0) (k ∙ sym (edgesAt-ones g formed-by-test v vertex-low vertex-high))
+    degree-is r k = ap (degree 0) (k ∙ sym (edgesAt-ones g formed-by-test v (vertex-low (g .order) v c p q) (vertex-high (g .order) v c p q)))
 
   module _ (i j : ℕ) (c : Bool) (p : c ≡ isPair (g .order) i j) (q : c ≡ true) where
-    two-vertices : both (isVertex (g .order) j) (not (eqb i j)) ≡ true
-    unfolding isPair
-    two-vertices = both-second (isVertex (g .order) i) (both (isVertex (g .order) j) (not (eqb i j))) (sym p ∙ q)
-
-    first-vertex : isVertex (g .order) i ≡ true
-    unfolding isPair
-    first-vertex = both-first (isVertex (g .order) i) (both (isVertex (g .order) j) (not (eqb i j))) (sym p ∙ q)
-
-    second-vertex : isVertex (g .order) j ≡ true
-    second-vertex = both-first (isVertex (g .order) j) (not (eqb i j)) two-vertices
-
-    pub row-low : 1 ≤ i
-    row-low = vertex-low i (isVertex (g .order) i) refl first-vertex
-
     pub row-most : i ≤ 32
-    row-most = vertex-most i (isVertex (g .order) i) refl first-vertex
-
-    pub column-low : 1 ≤ j
-    column-low = vertex-low j (isVertex (g .order) j) refl second-vertex
+    row-most = vertex-most i (isVertex (g .order) i) refl (row-vertex (g .order) i j c p q)
 
     pub column-most : j ≤ 32
-    column-most = vertex-most j (isVertex (g .order) j) refl second-vertex
-
-    pub apart : i ≢ j
-    apart = eqb-false i j (not-true (eqb i j) (both-second (isVertex (g .order) j) (not (eqb i j)) two-vertices))
+    column-most = vertex-most j (isVertex (g .order) j) refl (column-vertex (g .order) i j c p q)
 
   -- ---- counts
 
@@ -185,9 +135,6 @@ value-held value h = sym (le-leb value 2 h)
 
 pub value-failed : (value : ℕ) → 2 < value → false ≡ leb value 2
 value-failed value h = sym (lt-leb value 2 h)
-
-pub arranged-is : (r : Arrangement) (x y : List ℕ) → r ≡ arrangement 0 0 x → x ≡ y → r ≡ arrangement 0 0 y
-arranged-is r x y p q = p ∙ ap (arrangement 0 0) q
 
 pub permitted-reorders : (n starts : ℕ) (p : List ℕ) (r : Bool) → r ≡ isPermitted n starts p → r ≡ true → isReordering n p ≡ true
 unfolding isPermitted

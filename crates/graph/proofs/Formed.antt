@@ -14,21 +14,12 @@ use Rattle.laws.specs.UpToLaws.{all-at, all-hold}
 use Rattle.graph.specs.declared.Graph.{Graph}
 use Rattle.rows.specs.Rows.{row, startAt}
 use Rattle.graph.specs.Graph.{entry}
-use Rattle.graph.specs.WellFormed.{WellFormed, orderFits, wellFormed}
+use Rattle.graph.specs.WellFormed.{WellFormed, wellFormed}
+use Rattle.pairs.proofs.VertexLaws.{order-in-range, order-tested}
 use Rattle.rows.specs.Fits.{pairFits, rowFits, startsFit}
 use Rattle.graph.proofs.Rows.{edges-below, unknowns-below, edges-past, unknowns-past, starts-below, formed-by}
 
 -- ---- what the parts of the test say
-
--- the order is in range
-pub order-in-range : (n : ℕ) → orderFits n ≡ true → (1 ≤ n) × (n ≤ 32)
-unfolding orderFits
-order-in-range n t = (leb-true 1 n (both-first _ _ t), leb-true n 32 (both-second _ _ t))
-
--- an order in range passes the test
-pub order-tested : (n : ℕ) → 1 ≤ n → n ≤ 32 → orderFits n ≡ true
-unfolding orderFits
-order-tested n low high = both-hold _ _ (le-leb 1 n low) (le-leb n 32 high)
 
 module _ (g : Graph) (t : wellFormed g ≡ true) where
   lengths : (length (g .edges) ≡ 32) × (length (g .unknowns) ≡ 32)

@@ -1,7 +1,6 @@
 pub mod Rows
 pub mod Drawn
 pub mod Formed
-pub mod OrderLaws
 pub mod CodeAnswers
 pub mod Settings
 pub mod Relabelling

@@ -8,11 +8,10 @@ use Rattle.laws.specs.UpToLaws.{word-same}
 use Rattle.graph.specs.declared.Graph.{Graph}
 use Rattle.graph.specs.Graph.{entry, drawn, relabelled}
 use Rattle.rows.specs.Rows.{placed, mirrored}
-use Rattle.graph.specs.WellFormed.{WellFormed, FullyDrawn}
+use Rattle.graph.specs.WellFormed.{WellFormed}
 use Rattle.arrangements.specs.Arrangement.{at}
 use Rattle.rows.proofs.Placed.{placed-same}
 use Rattle.rows.proofs.Mirrored.{mirrored-itself}
-use Rattle.graph.proofs.Rows.{fully-drawn-by}
 use Rattle.graph.proofs.Drawn.{edgeRow, unknownRow, drawn-entry, drawn-formed}
 
 -- the entry that p brings to (i, j)
@@ -79,11 +78,3 @@ module _ (g : Graph) (p : List ℕ) (w : WellFormed g) where
   relabelled-formed =
       drawn-formed (g .order) (g .starts) (brought g p) (w .order-low) (w .order-high) (w .first-starts) (w .no-start-past)
       (λ i j li l hj. w .not-both (at p i) (at p j))
-
-  -- and fully drawn where g is
-  pub relabelled-drawn : FullyDrawn g → FullyDrawn (relabelled g p)
-  relabelled-drawn d =
-      fully-drawn-by (relabelled g p) relabelled-formed
-      (λ i j li l hj.
-      let h : j ≤ g .order = rw relabelled-order at hj in
-      rw (relabelled-entry i j li (omega arith) (omega arith) h) (d .known (at p i) (at p j)))

@@ -9,7 +9,7 @@ use Rattle.laws.specs.BitLaws.{below-of-bits}
 use Rattle.graph.specs.declared.Graph.{Graph}
 use Rattle.rows.specs.Rows.{row, startAt}
 use Rattle.graph.specs.Graph.{entry}
-use Rattle.graph.specs.WellFormed.{WellFormed, FullyDrawn}
+use Rattle.graph.specs.WellFormed.{WellFormed}
 
 -- an edge's bit is 1 where the entry is 1
 pub edge-bit : (g : Graph) (i j : ℕ) → bit (row (g .edges) i) (j - 1) ≡ entry g i j % 2
@@ -111,20 +111,3 @@ module _ (g : Graph) (low : 1 ≤ g .order) (high : g .order ≤ 32) (le : lengt
         first-starts = first;
         no-start-past = starts-past;
       }
-
--- a well-formed graph with no unknown above the diagonal is fully drawn
-pub fully-drawn-by : (g : Graph) → WellFormed g → ((i j : ℕ) → 1 ≤ i → i < j → j ≤ g .order → entry g i j ≤ 1) → FullyDrawn g
-fully-drawn-by g w upper = record { known = known₀ }
-  where
-    known₁ : (i j : ℕ) → 1 ≤ i → 1 ≤ j → entry g i j ≤ 1
-    known₁ i j li lj =
-        by-order i j
-        (λ l. by-below (g .order) j (λ p. omega (arith, w .none-past i j p)) (λ h. upper i j li l h))
-        (λ e. rw e (omega (arith, w .no-loop j)))
-        (λ l. rw (w .symmetric i j) (by-below (g .order) i (λ p. omega (arith, w .none-past j i p)) (λ h. upper j i lj l h)))
-
-    known₀ : (i j : ℕ) → entry g i j ≤ 1
-    known₀ zero zero = known₁ 1 1 (omega arith) (omega arith)
-    known₀ zero (suc j) = known₁ 1 (suc j) (omega arith) (omega arith)
-    known₀ (suc i) zero = known₁ (suc i) 1 (omega arith) (omega arith)
-    known₀ (suc i) (suc j) = known₁ (suc i) (suc j) (omega arith) (omega arith)

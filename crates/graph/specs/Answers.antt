@@ -1,27 +1,19 @@
 -- The full answer of each public function, with its refusals by number and place, in the order of their checks.
 use Prim.Native.Nat.{ℕ}
-use mathlib.Core.Bool.{Bool, not}
 use mathlib.Core.List.{List}
 use lib.ListN.{replicate}
-use lib.Dec.{leb, eqb}
-use Rattle.laws.specs.Test.{both, unless}
+use lib.Dec.{leb}
+use Rattle.laws.specs.Test.{unless}
 use Rattle.graph.specs.declared.Graph.{Graph}
 use Rattle.graph.specs.declared.Reading.{Reading}
 use Rattle.graph.specs.declared.Change.{Change}
 use Rattle.graph.specs.declared.Totals.{Totals}
 use Rattle.graph.specs.declared.Degree.{Degree}
-use Rattle.graph.specs.declared.Arrangement.{Arrangement}
 use Rattle.graph.specs.Graph.{entry, withEntry, relabelled}
-use Rattle.graph.specs.WellFormed.{wellFormed, orderFits}
+use Rattle.graph.specs.WellFormed.{wellFormed}
+use Rattle.pairs.specs.Vertices.{isVertex, isPair}
 use Rattle.graph.specs.Counts.{pairsWith, edgesAt}
-use Rattle.arrangements.specs.Arrangement.{isReordering, isPermitted, composed, inverse}
-
--- 7: vertex 0, a vertex above n, or i = j
-unfoldable pub isVertex : ℕ → ℕ → Bool
-isVertex n v = both (leb 1 v) (leb v n)
-
-unfoldable pub isPair : ℕ → ℕ → ℕ → Bool
-isPair n i j = both (isVertex n i) (both (isVertex n j) (not (eqb i j)))
+use Rattle.arrangements.specs.Arrangement.{isPermitted}
 
 -- ---- entries
 
@@ -69,18 +61,3 @@ relabelAnswer g p =
     unless (wellFormed g) (changed 8 noGraph)
     (unless (isPermitted (g .order) (g .starts) p) (changed 11 noGraph)
     (changed 0 (relabelled g p)))
-
-abbrev pub arrangement : ℕ → ℕ → List ℕ → Arrangement
-arrangement number place vs = record { refusal = number; place = place; vertices = vs }
-
-unfoldable pub composeAnswer : ℕ → List ℕ → List ℕ → Arrangement
-composeAnswer n p q =
-    unless (orderFits n) (arrangement 2 n (replicate 32 0))
-    (unless (both (isReordering n p) (isReordering n q)) (arrangement 11 0 (replicate 32 0))
-    (arrangement 0 0 (composed n p q)))
-
-unfoldable pub invertAnswer : ℕ → List ℕ → Arrangement
-invertAnswer n p =
-    unless (orderFits n) (arrangement 2 n (replicate 32 0))
-    (unless (isReordering n p) (arrangement 11 0 (replicate 32 0))
-    (arrangement 0 0 (inverse n p)))

@@ -2,4 +2,3 @@ pub mod Graph
 pub mod WellFormed
 pub mod Counts
 pub mod Answers
-pub mod Order

@@ -3,10 +3,11 @@ use Prim.Native.Nat.{ℕ, _≤_, _<_}
 use mathlib.Core.Path.{_≡_}
 use mathlib.Core.Bool.{Bool}
 use lib.ListN.{length}
-use lib.Dec.{leb, eqb}
+use lib.Dec.{eqb}
 use Rattle.laws.specs.Test.{both}
 use Rattle.laws.specs.UpTo.{allUpTo}
 use Rattle.graph.specs.declared.Graph.{Graph}
+use Rattle.pairs.specs.Vertices.{orderFits}
 use Rattle.rows.specs.Rows.{startAt}
 use Rattle.rows.specs.Fits.{rowFits, startsFit}
 use Rattle.graph.specs.Graph.{entry}
@@ -23,14 +24,7 @@ pub record WellFormed (g : Graph) : Type 0 where
   pub first-starts : startAt (g .starts) 1 ≡ 1
   pub no-start-past : (v : ℕ) → g .order < v → startAt (g .starts) v ≡ 0
 
--- no unknown entry
-pub record FullyDrawn (g : Graph) : Type 0 where
-  pub known : (i j : ℕ) → entry g i j ≤ 1
-
 -- ---- the test
-
-unfoldable pub orderFits : ℕ → Bool
-orderFits order = both (leb 1 order) (leb order 32)
 
 unfoldable pub wellFormed : Graph → Bool
 wellFormed g =

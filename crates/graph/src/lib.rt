@@ -1,13 +1,12 @@
-// Graph values, their entries, blocks and counts; arrangements. Vertices and places are numbered from 1.
+// Graph values, their entries, blocks and counts. Vertices are numbered from 1.
 ghost use mathlib.Core.Path.{_≡_};
-ghost use lib.ListN.{replicate};
-ghost use Rattle.graph.specs.WellFormed.{wellFormed, orderFits};
-ghost use Rattle.graph.specs.Answers.{isVertex, isPair, noGraph, changed, arrangement, readAnswer, setAnswer, countAnswer, degreeAnswer, relabelAnswer, composeAnswer, invertAnswer};
-use arrangements::composed::composed_of;
-use arrangements::composed::inverse_of;
+ghost use Rattle.graph.specs.WellFormed.{wellFormed};
+ghost use Rattle.graph.specs.Answers.{noGraph, changed, readAnswer, setAnswer, countAnswer, degreeAnswer, relabelAnswer};
 use arrangements::moved::moved_rows;
 use arrangements::permitted::is_permitted;
-use arrangements::reordering::is_reordering;
+use pairs::vertices::is_pair;
+use pairs::vertices::is_vertex;
+use pairs::vertices::order_fits;
 use rows::entries::entry_in;
 use rows::entries::mark;
 use rows::entries::ones_at;
@@ -54,46 +53,6 @@ pub struct Degree {
     pub refusal: u32,
     pub place: usize,
     pub edges: u32,
-}
-
-// The vertex at place i stands at index i - 1; zeros follow after the last place.
-pub struct Arrangement {
-    pub refusal: u32,
-    pub place: usize,
-    pub vertices: [u8; 32],
-}
-
-// Is it an order that a graph may have?
-pub fn order_fits(order: u32) -> bool
-    ensures { λ r. ⌜ r ≡ orderFits order ⌝ }
-{
-    if order < 1 {
-        return false;
-    }
-    order <= 32
-}
-
-// Is v a vertex of a graph of order n?
-pub fn is_vertex(n: u32, v: u32) -> bool
-    ensures { λ r. ⌜ r ≡ isVertex n v ⌝ }
-{
-    if v < 1 {
-        return false;
-    }
-    v <= n
-}
-
-// Are i and j two vertices of a graph of order n?
-pub fn is_pair(n: u32, i: u32, j: u32) -> bool
-    ensures { λ r. ⌜ r ≡ isPair n i j ⌝ }
-{
-    if is_vertex(n, i) {
-        if is_vertex(n, j) {
-            return i != j;
-        }
-        return false;
-    }
-    false
 }
 
 impl Graph {
@@ -252,55 +211,4 @@ fn answer(refusal: u32, graph: Graph) -> Change
         place: 0,
         graph,
     }
-}
-
-// The vertices that are answered.
-fn arranged(vertices: [u8; 32]) -> Arrangement
-    ensures { λ r. ⌜ r ≡ arrangement 0 0 vertices ⌝ }
-{
-    Arrangement {
-        refusal: 0,
-        place: 0,
-        vertices,
-    }
-}
-
-// A refusal, with zeros beside it.
-fn unarranged(refusal: u32, place: u32) -> Arrangement
-    ensures { λ r. ⌜ r ≡ arrangement refusal place (replicate 32 0) ⌝ }
-{
-    Arrangement {
-        refusal,
-        place: place as usize,
-        vertices: [0u8; 32],
-    }
-}
-
-// p composed with q: it puts p(q(i)) at i.
-pub fn compose(order: u32, p: [u8; 32], q: [u8; 32]) -> Arrangement
-    ensures { λ r. ⌜ r ≡ composeAnswer order p q ⌝ }
-{
-    if order_fits(order) {
-        if is_reordering(order, p) {
-            if is_reordering(order, q) {
-                return arranged(composed_of(order, &p, &q));
-            }
-            return unarranged(11, 0);
-        }
-        return unarranged(11, 0);
-    }
-    unarranged(2, order)
-}
-
-// The inverse of p: it puts at v the place at which p has v.
-pub fn invert(order: u32, p: [u8; 32]) -> Arrangement
-    ensures { λ r. ⌜ r ≡ invertAnswer order p ⌝ }
-{
-    if order_fits(order) {
-        if is_reordering(order, p) {
-            return arranged(inverse_of(order, &p));
-        }
-        return unarranged(11, 0);
-    }
-    unarranged(2, order)
 }

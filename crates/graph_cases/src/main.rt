@@ -1,6 +1,6 @@
 // Shows the refusals of graph in the order of their checks: a line for each case, good and bad input side by side, with the
 // refusal's number, its place and the values beside it.
-use graph::Arrangement;
+use composing::Arrangement;
 use graph::Change;
 use graph::Graph;
 use show::number;
@@ -153,14 +153,14 @@ fn compose(order: u32, p: [u8; 32], q: [u8; 32]) {
     four(b" compose ", p);
     four(b" with ", q);
     text(b":");
-    arrangement(graph::compose(order, p, q));
+    arrangement(composing::compose(order, p, q));
 }
 
 fn invert(order: u32, p: [u8; 32]) {
     word(b"at order ", order);
     four(b" invert ", p);
     text(b":");
-    arrangement(graph::invert(order, p));
+    arrangement(composing::invert(order, p));
 }
 
 // ---- the cases

@@ -1,3 +1,5 @@
+pub mod FullyDrawn
+pub mod OrderLaws
 pub mod Arrangements
 pub mod Judgements
 pub mod Certificates

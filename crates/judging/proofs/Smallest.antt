@@ -12,15 +12,16 @@ use Rattle.walk.proofs.Sound.{won-full}
 use Rattle.walk.proofs.Order.{earlier-none, earlier-cases}
 use Rattle.graph.specs.declared.Graph.{Graph}
 use Rattle.graph.specs.Graph.{entry, relabelled}
-use Rattle.graph.specs.WellFormed.{WellFormed, FullyDrawn}
+use Rattle.graph.specs.WellFormed.{WellFormed}
 use Rattle.arrangements.specs.Arrangement.{at, Reordering, Permitted, composed}
 use Rattle.pairs.specs.Pairs.{Pair, pairs, pairCount}
 use Rattle.graph.specs.Counts.{entryAt}
-use Rattle.graph.specs.Order.{EarlierGraph, matrixWord}
+use Rattle.judging.specs.Order.{EarlierGraph, matrixWord, FullyDrawn}
 use Rattle.rows.proofs.Placed.{placed-at}
 use Rattle.graph.proofs.Drawn.{same-graph}
 use Rattle.arrangements.proofs.Composing.{identity, identity-permitted, composed-at, composed-permitted}
-use Rattle.graph.proofs.Relabelling.{relabelled-order, relabelled-starts, relabelled-entry, relabelled-formed, relabelled-drawn}
+use Rattle.graph.proofs.Relabelling.{relabelled-order, relabelled-starts, relabelled-entry, relabelled-formed}
+use Rattle.judging.proofs.FullyDrawn.{relabelled-drawn}
 use Rattle.judging.specs.declared.Judged.{Judged}
 use Rattle.judging.specs.Judging.{image, walkAll, stepsFor}
 use Rattle.judging.specs.Answer.{told, without, judgeAnswer}

@@ -12,13 +12,14 @@ use Rattle.walk.specs.Clause.{BreaksClause}
 use Rattle.walk.specs.Earlier.{Earlier, copy, LexLess}
 use Rattle.walk.proofs.Broken.{clause-sound}
 use Rattle.graph.specs.declared.Graph.{Graph}
-use Rattle.graph.specs.WellFormed.{WellFormed, FullyDrawn}
+use Rattle.graph.specs.WellFormed.{WellFormed}
 use Rattle.graph.specs.Graph.{relabelled}
 use Rattle.pairs.specs.Pairs.{pairs}
 use Rattle.graph.specs.Counts.{entryAt}
-use Rattle.graph.specs.Order.{EarlierGraph, matrixWord}
-use Rattle.graph.proofs.Relabelling.{relabelled-order, relabelled-formed, relabelled-drawn}
-use Rattle.graph.proofs.OrderLaws.{same-order}
+use Rattle.judging.specs.Order.{EarlierGraph, matrixWord, FullyDrawn}
+use Rattle.graph.proofs.Relabelling.{relabelled-order, relabelled-formed}
+use Rattle.judging.proofs.FullyDrawn.{relabelled-drawn}
+use Rattle.judging.proofs.OrderLaws.{same-order}
 use Rattle.judging.specs.declared.Judged.{Judged}
 use Rattle.judging.specs.Judging.{image, walkAll, literalsOf, clauseOf}
 use Rattle.judging.specs.Answer.{told, without, judgeAnswer}

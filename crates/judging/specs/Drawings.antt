@@ -6,12 +6,12 @@ use lib.IntN.{ℤ}
 use lib.ListN.{length, take}
 use Rattle.walk.specs.Clause.{BreaksClause}
 use Rattle.graph.specs.declared.Graph.{Graph}
-use Rattle.graph.specs.WellFormed.{WellFormed, FullyDrawn}
+use Rattle.graph.specs.WellFormed.{WellFormed}
+use Rattle.judging.specs.Order.{FullyDrawn, EarlierGraph}
 use Rattle.arrangements.specs.Arrangement.{Permitted}
 use Rattle.graph.specs.Graph.{relabelled}
 use Rattle.pairs.specs.Pairs.{pairs}
 use Rattle.graph.specs.Counts.{entryAt}
-use Rattle.graph.specs.Order.{EarlierGraph}
 use Rattle.judging.specs.Judging.{clauseOf}
 use Rattle.judging.specs.Answer.{told, judgeAnswer, judgeBuffer}
 

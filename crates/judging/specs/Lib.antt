@@ -1,3 +1,4 @@
+pub mod Order
 pub mod Judging
 pub mod Answer
 pub mod Certificates

@@ -16,7 +16,8 @@ use Rattle.graph.specs.declared.Graph.{Graph}
 use Rattle.rows.specs.Rows.{placed, mirrored}
 use Rattle.graph.specs.Graph.{drawn}
 use Rattle.rows.specs.Fits.{pairFits, rowFits, startsFit}
-use Rattle.graph.specs.WellFormed.{orderFits, wellFormed}
+use Rattle.graph.specs.WellFormed.{wellFormed}
+use Rattle.pairs.specs.Vertices.{orderFits}
 use Rattle.pairs.specs.Pairs.{alongRow, fromRow, pairs, pairCount, number}
 use Rattle.judging.specs.declared.Verdict.{Verdict}
 use Rattle.judging.specs.declared.Verdict.the-variants.{Smaller, Nothing, Cut}

@@ -3,11 +3,11 @@ use Prim.Native.Nat.{ℕ}
 use mathlib.Core.Path.{_≡_}
 use mathlib.Core.List.{List, [], _∷_, _++_, append-assoc}
 use lib.IntN.{ℤ}
-use Rattle.line.specs.Page.{Page, pushed, written}
-use Rattle.line.specs.Decimal.{decimal, signed}
-use Rattle.line.specs.Fields.{listed}
+use Rattle.text.specs.Page.{Page, pushed, written}
+use Rattle.text.specs.Decimal.{decimal, signed}
+use Rattle.text.specs.Lists.{listed}
 use Rattle.line.specs.Line.{spaced, lineOf}
-use Rattle.line.proofs.Pages.{written-append}
+use Rattle.text.proofs.Pages.{written-append}
 
 -- a text, and then another
 joins : (p q r : Page) (xs ys : List ℕ) → q ≡ written p xs → r ≡ written q ys → r ≡ written p (xs ++ ys)

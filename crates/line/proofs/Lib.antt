@@ -1,9 +1,3 @@
-pub mod Pages
-pub mod Decimals
-pub mod Signs
-pub mod Commas
 pub mod Joined
-pub mod Poured
-pub mod Taken
 pub mod Verdicts
 pub mod Room

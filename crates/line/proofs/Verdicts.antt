@@ -7,10 +7,10 @@ use lib.ListN.{length, take}
 use Rattle.judging.specs.declared.Verdict.{Verdict}
 use Rattle.judging.specs.declared.Verdict.the-variants.{Smaller, Nothing, Cut, Refused}
 use Rattle.judging.specs.declared.Judged.{Judged}
-use Rattle.line.specs.Text.{bytesOf}
-use Rattle.line.specs.Page.{page, written, poured}
+use Rattle.text.specs.Text.{bytesOf}
+use Rattle.text.specs.Page.{page, written, poured}
 use Rattle.line.specs.Line.{lineOf, verdictLine, judgedLine}
-use Rattle.line.proofs.Poured.{poured-is}
+use Rattle.text.proofs.Poured.{poured-is}
 
 -- what the code answers for a judged record, and the buffer that it leaves
 abbrev Shown : ℕ → ℕ → Judged → List ℤ → List ℕ → List ℕ → ℕ → Type 0

@@ -6,9 +6,9 @@ use lib.ListN.{take}
 use Rattle.judging.specs.declared.Verdict.{Verdict}
 use Rattle.judging.specs.declared.Verdict.the-variants.{Smaller, Nothing, Cut, Refused}
 use Rattle.judging.specs.declared.Judged.{Judged}
-use Rattle.line.specs.Text.{bytesOf}
-use Rattle.line.specs.Decimal.{decimal, signed}
-use Rattle.line.specs.Fields.{listed}
+use Rattle.text.specs.Text.{bytesOf}
+use Rattle.text.specs.Decimal.{decimal, signed}
+use Rattle.text.specs.Lists.{listed}
 
 -- a field, and the space after it
 unfoldable pub spaced : List ℕ → List ℕ

@@ -5,9 +5,9 @@ use lib.IntN.{pos, negsuc}
 use lib.ListN.{replicate}
 use Rattle.judging.specs.declared.Verdict.the-variants.{Smaller, Nothing, Refused}
 use Rattle.judging.specs.Answer.{without}
-use Rattle.line.specs.Text.{bytesOf}
-use Rattle.line.specs.Decimal.{digits, fewest, decimal, signed}
-use Rattle.line.specs.Fields.{others, listed}
+use Rattle.text.specs.Text.{bytesOf}
+use Rattle.text.specs.Decimal.{digits, fewest, decimal, signed}
+use Rattle.text.specs.Lists.{others, listed}
 use Rattle.line.specs.Line.{spaced, lineOf, verdictLine, judgedLine}
 use Rattle.laws.specs.Test.{pick}
 

@@ -1,14 +1,14 @@
 // The fields of a line, put into a lent buffer.
-use crate::decimal::put_decimal;
-use crate::lists::put_literals;
-use crate::lists::put_vertices;
-use crate::page::push;
-use crate::page::put;
+use text::decimal::put_decimal;
+use text::lists::put_list;
+use text::lists::put_signed_list;
+use text::page::push;
+use text::page::put;
 ghost use mathlib.Core.Path.{_≡_};
 ghost use mathlib.Core.List.{[], _∷_, _++_};
-ghost use Rattle.line.specs.Page.{page, written};
-ghost use Rattle.line.specs.Decimal.{decimal, signed};
-ghost use Rattle.line.specs.Fields.{listed};
+ghost use Rattle.text.specs.Page.{page, written};
+ghost use Rattle.text.specs.Decimal.{decimal, signed};
+ghost use Rattle.text.specs.Lists.{listed};
 ghost use Rattle.line.specs.Line.{spaced, lineOf};
 
 // A number, and the space after it.
@@ -42,9 +42,9 @@ fn put_numbers(out: &mut [u8], at: usize, row: u32, column: u32, steps: u32) -> 
 fn put_end(out: &mut [u8], at: usize, arrangement: &[u8], clause: &[i32]) -> usize
     ensures { λ r. ⌜ page (now (out .exit)) r ≡ written (page (now (out .entry)) at) (spaced (listed decimal (now (arrangement .entry))) ++ (listed signed (now (clause .entry)) ++ (10 ∷ []))) ⌝ }
 {
-    let next = put_vertices(out, at, arrangement);
+    let next = put_list(out, at, arrangement);
     let second = push(out, next, b' ');
-    let last = put_literals(out, second, clause);
+    let last = put_signed_list(out, second, clause);
     push(out, last, b'\n')
 }
 

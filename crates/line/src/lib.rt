@@ -1,18 +1,15 @@
 // A line of the listing, put into a lent buffer.
-mod decimal;
 mod fields;
-mod lists;
-mod page;
 
 use fields::put_bare;
 use fields::put_line;
 use judging::Judged;
 use judging::Verdict;
-use page::put;
+use text::page::put;
 ghost use mathlib.Core.Path.{_≡_};
 ghost use Prim.Native.Nat.{min};
 ghost use lib.ListN.{length, take};
-ghost use Rattle.line.specs.Page.{poured};
+ghost use Rattle.text.specs.Page.{poured};
 ghost use Rattle.line.specs.Line.{headerText, judgedLine};
 
 // Puts the header at the start of out, as much of it as there is room for, and answers how many bytes that is.

@@ -14,7 +14,7 @@ use Rattle.record.specs.Answers.{recordAt, readAnswer, restOf}
 use Rattle.judging.specs.declared.Verdict.the-variants.{Refused}
 use Rattle.judging.specs.declared.Judged.{Judged}
 use Rattle.judging.specs.Answer.{without, judgeAnswer, judgeBuffer}
-use Rattle.line.specs.Page.{poured}
+use Rattle.text.specs.Page.{poured}
 use Rattle.line.specs.Line.{judgedLine}
 use Rattle.line.proofs.Room.{line-room}
 use Rattle.listing.specs.Listing.{budget, scratch, judgedRecord, literalsOf, recordLine}

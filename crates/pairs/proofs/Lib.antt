@@ -1,2 +1,3 @@
 pub mod PairLaws
 pub mod Products
+pub mod VertexLaws

@@ -1,5 +1,7 @@
 // The pairs i < j in row order: how many there are, and the number of each. What is defined of them stands in specs/, and the
-// laws in proofs/. For the crates of this project; a caller has checked what a function asks of it.
+// laws in proofs/. Those of this file are for the crates of this project; a caller has checked what a function asks of it.
+pub mod vertices;
+
 ghost use mathlib.Core.Path.{_≡_};
 ghost use Prim.Native.Nat.{_*_, _≤_};
 ghost use Rattle.pairs.specs.Pairs.{pairCount, number};

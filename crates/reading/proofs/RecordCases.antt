@@ -8,8 +8,8 @@ use native.Mathlib.Omega.{arith}
 use lib.ListN.{length, take, drop, length-drop}
 use lib.Seq.{take-all}
 use Rattle.laws.specs.Test.{unless}
-use Rattle.graph.specs.WellFormed.{orderFits}
-use Rattle.graph.proofs.Formed.{order-tested}
+use Rattle.pairs.specs.Vertices.{orderFits}
+use Rattle.pairs.proofs.VertexLaws.{order-tested}
 use Rattle.record.specs.declared.Extent.{Extent}
 use Rattle.record.specs.Layout.{byteCount}
 use Rattle.record.specs.Reading.{orderIn, refusedIn, padIn}

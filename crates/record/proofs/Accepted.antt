@@ -11,8 +11,8 @@ use Rattle.laws.specs.Test.{unless}
 use Rattle.laws.specs.TestLaws.{pick-true, pick-false}
 use Rattle.graph.specs.declared.Graph.{Graph}
 use Rattle.graph.specs.Answers.{noGraph}
-use Rattle.graph.specs.WellFormed.{orderFits}
-use Rattle.graph.proofs.Formed.{order-in-range, order-tested}
+use Rattle.pairs.specs.Vertices.{orderFits}
+use Rattle.pairs.proofs.VertexLaws.{order-in-range, order-tested}
 use Rattle.record.specs.declared.Extent.{Extent}
 use Rattle.record.specs.Layout.{byteCount}
 use Rattle.fields.specs.Bits.{bitOf}

@@ -10,7 +10,8 @@ use Rattle.laws.specs.First.{firstUpTo, orElse}
 use Rattle.graph.specs.declared.Graph.{Graph}
 use Rattle.graph.specs.Graph.{drawn}
 use Rattle.rows.specs.Rows.{placed, mirrored}
-use Rattle.graph.specs.WellFormed.{wellFormed, orderFits}
+use Rattle.graph.specs.WellFormed.{wellFormed}
+use Rattle.pairs.specs.Vertices.{orderFits}
 use Rattle.rows.specs.Fits.{startsFit, rowFits, pairFits}
 use Rattle.pairs.specs.Pairs.{pairs, fromRow, alongRow}
 use Rattle.record.specs.Layout.{bitCount, byteCount}

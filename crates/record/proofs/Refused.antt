@@ -13,7 +13,8 @@ use Rattle.laws.specs.Num.{zeros-of-num, num-of-zeros}
 use Rattle.laws.specs.First.{first-is}
 use Rattle.graph.specs.declared.Graph.{Graph}
 use Rattle.graph.specs.Answers.{noGraph}
-use Rattle.graph.specs.WellFormed.{wellFormed, orderFits}
+use Rattle.graph.specs.WellFormed.{wellFormed}
+use Rattle.pairs.specs.Vertices.{orderFits}
 use Rattle.pairs.specs.Pairs.{pairCount}
 use Rattle.record.specs.declared.Extent.{Extent}
 use Rattle.record.specs.Layout.{bitCount, byteCount}

@@ -6,9 +6,9 @@ use native.Mathlib.Nat.{mul-le-mul}
 use native.Mathlib.Omega.{arith}
 use borrow.Author.Tests.{le-leb, lt-leb}
 use Rattle.laws.specs.Test.{both, unless}
-use Rattle.graph.specs.WellFormed.{orderFits}
+use Rattle.pairs.specs.Vertices.{orderFits}
 use Rattle.pairs.specs.Pairs.{pairCount}
-use Rattle.graph.proofs.Formed.{order-in-range}
+use Rattle.pairs.proofs.VertexLaws.{order-in-range}
 use Rattle.pairs.proofs.PairLaws.{pairCount-suc}
 use Rattle.record.specs.declared.Extent.{Extent}
 use Rattle.record.specs.Layout.{cell, bitCount, byteCount}

@@ -6,7 +6,8 @@ use lib.Dec.{leb, eqb}
 use denote.Ref.{RefT, now}
 use Rattle.laws.specs.Test.{pick, unless}
 use Rattle.graph.specs.declared.Graph.{Graph}
-use Rattle.graph.specs.WellFormed.{wellFormed, orderFits}
+use Rattle.graph.specs.WellFormed.{wellFormed}
+use Rattle.pairs.specs.Vertices.{orderFits}
 use Rattle.graph.specs.Answers.{noGraph}
 use Rattle.record.specs.declared.Extent.{Extent}
 use Rattle.record.specs.declared.Record.{Record}

@@ -182,9 +182,9 @@ fn changes() {
     refusal(b"setting (1,2) of 100 to 3", changed.refusal, changed.place);
     let moved = sample().relabel(places(1, 1, 3));
     refusal(b"relabelling 100 by 1,1,3", moved.refusal, moved.place);
-    let joined = graph::compose(33, places(1, 2, 3), places(1, 2, 3));
+    let joined = composing::compose(33, places(1, 2, 3), places(1, 2, 3));
     refusal(b"composing at order 33", joined.refusal, joined.place);
-    let back = graph::invert(3, places(1, 2, 4));
+    let back = composing::invert(3, places(1, 2, 4));
     refusal(b"inverting 1,2,4 at order 3", back.refusal, back.place);
 }
 

@@ -1,5 +1,5 @@
 use borrow.Author.Needs.{needs}
-use Rattle.line.proofs.Taken.{taken-long, taken-whole}
+use Rattle.text.proofs.Taken.{taken-long, taken-whole}
 use Rattle.line.proofs.first_literals.Statement.{statement}
 use Rattle.line.proofs.first_literals.Tie as tie
 

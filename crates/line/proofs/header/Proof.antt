@@ -1,6 +1,6 @@
 use borrow.Author.Needs.{needs}
-use Rattle.line.proofs.Poured.{poured-is}
-use Rattle.line.specs.Text.{bytesOf}
+use Rattle.text.proofs.Poured.{poured-is}
+use Rattle.text.specs.Text.{bytesOf}
 use Rattle.line.specs.Line.{headerText}
 use Rattle.line.proofs.header.Statement.{statement}
 use Rattle.line.proofs.header.Tie as tie

@@ -1,5 +1,5 @@
 use borrow.Author.Needs.{needs}
-use Rattle.line.specs.Text.{bytesOf}
+use Rattle.text.specs.Text.{bytesOf}
 use Rattle.line.proofs.Verdicts.{shows-smaller, shows-none, shows-cut, shows-refused}
 use Rattle.line.proofs.line.Statement.{statement}
 use Rattle.line.proofs.line.Tie as tie

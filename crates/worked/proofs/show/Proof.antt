@@ -1,5 +1,5 @@
 use borrow.Author.Needs.{needs}
-use Rattle.line.proofs.Taken.{used-long}
+use Rattle.text.proofs.Taken.{used-long}
 use Rattle.worked.proofs.show.Statement.{statement}
 use Rattle.worked.proofs.show.Tie as tie
 

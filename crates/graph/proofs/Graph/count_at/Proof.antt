@@ -1,6 +1,7 @@
 use borrow.Author.Needs.{needs}
 use Rattle.laws.specs.TestLaws.{refused, passed}
-use Rattle.graph.proofs.CodeAnswers.{vertex-low, vertex-most, degree-is}
+use Rattle.graph.proofs.CodeAnswers.{vertex-most, degree-is}
+use Rattle.pairs.proofs.VertexLaws.{vertex-low}
 use Rattle.graph.specs.Answers.{degreeAnswer}
 use Rattle.graph.proofs.Graph.count_at.Statement.{statement}
 use Rattle.graph.proofs.Graph.count_at.Tie as tie

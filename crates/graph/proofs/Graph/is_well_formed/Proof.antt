@@ -1,5 +1,6 @@
 use borrow.Author.Needs.{needs}
-use Rattle.graph.proofs.CodeAnswers.{order-most, formed-not-order, formed-not-starts, formed-rows}
+use Rattle.graph.proofs.CodeAnswers.{formed-not-order, formed-not-starts, formed-rows}
+use Rattle.pairs.proofs.VertexLaws.{order-most}
 use Rattle.graph.proofs.Graph.is_well_formed.Statement.{statement}
 use Rattle.graph.proofs.Graph.is_well_formed.Tie as tie
 

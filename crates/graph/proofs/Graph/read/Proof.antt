@@ -1,6 +1,7 @@
 use borrow.Author.Needs.{needs}
 use Rattle.laws.specs.TestLaws.{refused, passed}
-use Rattle.graph.proofs.CodeAnswers.{row-low, row-most, column-low, column-most, reading-is}
+use Rattle.graph.proofs.CodeAnswers.{row-most, column-most, reading-is}
+use Rattle.pairs.proofs.VertexLaws.{row-low, column-low}
 use Rattle.graph.specs.Answers.{readAnswer}
 use Rattle.graph.proofs.Graph.read.Statement.{statement}
 use Rattle.graph.proofs.Graph.read.Tie as tie

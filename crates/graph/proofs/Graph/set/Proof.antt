@@ -1,6 +1,7 @@
 use borrow.Author.Needs.{needs}
 use Rattle.laws.specs.TestLaws.{refused, passed}
-use Rattle.graph.proofs.CodeAnswers.{row-low, row-most, column-low, column-most, apart, set-is, value-held, value-failed}
+use Rattle.graph.proofs.CodeAnswers.{row-most, column-most, set-is, value-held, value-failed}
+use Rattle.pairs.proofs.VertexLaws.{row-low, column-low, apart}
 use Rattle.graph.specs.Answers.{setAnswer}
 use Rattle.graph.proofs.Graph.set.Statement.{statement}
 use Rattle.graph.proofs.Graph.set.Tie as tie

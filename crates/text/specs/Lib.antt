@@ -1,0 +1,4 @@
+pub mod Text
+pub mod Page
+pub mod Decimal
+pub mod Lists
