@@ -4,4 +4,3 @@ pub mod Answer
 pub mod Certificates
 pub mod InWords
 pub mod Drawings
-pub mod Worked

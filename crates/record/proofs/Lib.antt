@@ -1,4 +1,3 @@
-pub mod Cases
 pub mod SizeLaws
 pub mod StartLaws
 pub mod Accepted

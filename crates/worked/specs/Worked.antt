@@ -1,0 +1,103 @@
+-- The worked graphs that are proved, as one table under one claim.
+use Prim.Native.Nat.{ℕ, _-_}
+use mathlib.Core.Path.{_≡_, refl}
+use mathlib.Core.List.{List, [], _∷_, _++_, map, flatMap}
+use lib.IntN.{ℤ, pos, negsuc}
+use lib.ListN.{length, getD, drop, replicate}
+use Rattle.laws.specs.Test.{both, either, pick, unless}
+use Rattle.laws.specs.UpTo.{allUpTo, sumUpTo, wordUpTo, listUpTo}
+use Rattle.laws.specs.Chosen.{chosenUpTo}
+use Rattle.laws.specs.Num.{num}
+use Rattle.laws.specs.First.{firstUpTo, orElse}
+use Rattle.walk.specs.Walk.{step, ending, walk}
+use Rattle.walk.specs.Clause.{met, literals, sameLiteral, among, numbered, clauseAfter, clause}
+use Rattle.beginnings.specs.Beginning.{absent, mayFollow, children}
+use Rattle.beginnings.specs.Search.{whereOpen, subtree, subtrees, reached, onWon, tryAll, searched}
+use Rattle.beginnings.specs.Certificate.{withFirst, completed}
+use Rattle.pairs.specs.Vertices.{orderFits}
+use Rattle.pairs.specs.Pairs.{alongRow, fromRow, pairs, pairCount, number}
+use Rattle.rows.specs.Rows.{placed, mirrored}
+use Rattle.rows.specs.Fits.{pairFits, rowFits, startsFit}
+use Rattle.graph.specs.declared.Graph.{Graph}
+use Rattle.graph.specs.Graph.{drawn}
+use Rattle.graph.specs.WellFormed.{wellFormed}
+use Rattle.fields.specs.Bits.{bitOf}
+use Rattle.record.specs.declared.Record.{Record}
+use Rattle.record.specs.Layout.{bitCount, byteCount}
+use Rattle.record.specs.Reading.{orderIn, startIn, startsIn, numberedIn, entryIn, isRefused, refusedIn, padIn, graphIn}
+use Rattle.record.specs.Writing.{entryBit, recordBit, recordByte, recordOf}
+use Rattle.record.specs.Answers.{recordIn, recordAt, readAnswer, bufferAfter}
+use Rattle.judging.specs.declared.Verdict.{Verdict}
+use Rattle.judging.specs.declared.Verdict.the-variants.{Smaller, Nothing, Cut}
+use Rattle.judging.specs.declared.Judged.{Judged}
+use Rattle.judging.specs.Judging.{samePair, pairOfTwo, image, walkAll, literalsOf, clauseOf, judgedOn, judgementOf, judged, found, padded, certificateOf}
+use Rattle.judging.specs.Answer.{without, standingPair, smaller, answerFor, judgeAnswer, atStart, judgeBuffer}
+
+-- a graph by its entries in row order with its record, a budget, and what judging it must give
+record Case : Type 0 where
+  order : ℕ
+  starts : ℕ
+  entries : List ℕ
+  bytes : List ℕ
+  budget : ℕ
+  verdict : Verdict
+  arrangement : List ℕ
+  literals : List ℤ
+
+abbrev u : ℕ
+u = 2
+
+abbrev cases : List Case
+cases =
+    record { order = 1; starts = 1; entries = []; bytes = 0x04 ∷ []; budget = 1000; verdict = Nothing 1; arrangement = []; literals = [] }
+    ∷ record { order = 2; starts = 1; entries = u ∷ []; bytes = 0x09 ∷ 0x00 ∷ []; budget = 1000; verdict = Nothing 4; arrangement = []; literals = [] }
+    ∷ record { order = 2; starts = 1; entries = 1 ∷ []; bytes = 0x08 ∷ 0x80 ∷ []; budget = 1000; verdict = Nothing 4; arrangement = []; literals = [] }
+    ∷ record { order = 3; starts = 1; entries = 1 ∷ 0 ∷ 0 ∷ []; bytes = 0x0c ∷ 0x40 ∷ []; budget = 1000; verdict = Smaller 1 2 4; arrangement = 1 ∷ 3 ∷ 2 ∷ []; literals = negsuc 0 ∷ pos 2 ∷ [] }
+    ∷ record { order = 3; starts = 1; entries = 1 ∷ 0 ∷ 0 ∷ []; bytes = 0x0c ∷ 0x40 ∷ []; budget = 3; verdict = Cut 3; arrangement = []; literals = [] }
+    ∷ record { order = 3; starts = 1; entries = 0 ∷ 0 ∷ 1 ∷ []; bytes = 0x0c ∷ 0x04 ∷ []; budget = 1000; verdict = Nothing 13; arrangement = []; literals = [] }
+    ∷ record { order = 3; starts = 1; entries = 0 ∷ 1 ∷ 1 ∷ []; bytes = 0x0c ∷ 0x14 ∷ []; budget = 1000; verdict = Nothing 11; arrangement = []; literals = [] }
+    ∷ record { order = 3; starts = 1; entries = 1 ∷ 1 ∷ 1 ∷ []; bytes = 0x0c ∷ 0x54 ∷ []; budget = 1000; verdict = Nothing 15; arrangement = []; literals = [] }
+    ∷ record { order = 3; starts = 1; entries = 0 ∷ 1 ∷ 0 ∷ []; bytes = 0x0c ∷ 0x10 ∷ []; budget = 1000; verdict = Smaller 1 3 7; arrangement = 2 ∷ 1 ∷ 3 ∷ []; literals = negsuc 1 ∷ pos 3 ∷ [] }
+    ∷ record { order = 3; starts = 1; entries = 1 ∷ 1 ∷ 0 ∷ []; bytes = 0x0c ∷ 0x50 ∷ []; budget = 1000; verdict = Smaller 1 3 8; arrangement = 2 ∷ 1 ∷ 3 ∷ []; literals = negsuc 1 ∷ pos 3 ∷ [] }
+    ∷ record { order = 3; starts = 7; entries = 1 ∷ 0 ∷ 0 ∷ []; bytes = 0x0f ∷ 0x40 ∷ []; budget = 1000; verdict = Nothing 3; arrangement = []; literals = [] }
+    ∷ record { order = 3; starts = 1; entries = u ∷ u ∷ u ∷ []; bytes = 0x0c ∷ 0xa8 ∷ []; budget = 1000; verdict = Nothing 11; arrangement = []; literals = [] }
+    ∷ record { order = 3; starts = 1; entries = 0 ∷ 1 ∷ u ∷ []; bytes = 0x0c ∷ 0x18 ∷ []; budget = 1000; verdict = Nothing 11; arrangement = []; literals = [] }
+    ∷ record { order = 4; starts = 1; entries = u ∷ 1 ∷ u ∷ u ∷ 0 ∷ 0 ∷ []; bytes = 0x10 ∷ 0x4d ∷ 0x00 ∷ []; budget = 1000; verdict = Smaller 1 3 13; arrangement = 2 ∷ 1 ∷ 4 ∷ 3 ∷ []; literals = negsuc 1 ∷ pos 5 ∷ [] }
+    ∷ []
+
+abbrev graphOf : Case → Graph
+graphOf c = drawn (c .order) (c .starts) (λ i j. getD (c .entries) (number (c .order) i j - 1) 0)
+
+-- a buffer just long enough
+abbrev room : Case → List ℤ
+room c = replicate (pairCount (c .order)) (pos 0)
+
+-- an answer and the buffer afterwards, the record that is written over bytes of ones, and what reading it gives
+record Outcome : Type 0 where
+  answer : Judged
+  buffer : List ℤ
+  written : List ℕ
+  read : Record
+
+abbrev given : Case → Outcome
+given c =
+    let g = graphOf c in
+    record {
+      answer = judgeAnswer g (c .budget) (length (room c));
+      buffer = judgeBuffer g (c .budget) (room c);
+      written = bufferAfter g (replicate (length (c .bytes)) 0xff);
+      read = readAnswer (c .bytes);
+    }
+
+abbrev expected : Case → Outcome
+expected c =
+    record {
+      answer = record { verdict = c .verdict; arrangement = c .arrangement ++ replicate (32 - length (c .arrangement)) 0; literals = length (c .literals) };
+      buffer = c .literals ++ drop (length (c .literals)) (room c);
+      written = c .bytes;
+      read = record { refusal = 0; place = 0; graph = graphOf c };
+    }
+
+worked : map given cases ≡ map expected cases
+unfolding both either pick unless allUpTo sumUpTo wordUpTo listUpTo chosenUpTo step ending walk met literals sameLiteral among numbered clauseAfter clause absent mayFollow children whereOpen subtree subtrees reached onWon tryAll searched withFirst completed placed mirrored drawn pairFits rowFits startsFit orderFits wellFormed alongRow fromRow pairs samePair pairOfTwo image walkAll literalsOf clauseOf judgedOn judgementOf judged found padded certificateOf without standingPair smaller answerFor judgeAnswer atStart judgeBuffer flatMap num firstUpTo orElse bitCount byteCount bitOf orderIn startIn startsIn numberedIn entryIn isRefused refusedIn padIn graphIn entryBit recordBit recordByte recordOf recordIn recordAt readAnswer bufferAfter
+worked = refl
