@@ -1,3 +1,4 @@
 pub mod Book
 pub mod Turning
 pub mod Parts
+pub mod Starting

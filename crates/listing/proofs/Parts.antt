@@ -1,4 +1,4 @@
--- The code of some lines, one after the other.
+-- The code of the lines of a part, one after the other.
 use Prim.Native.Nat.{ℕ, zero, suc, _+_, _-_, _≤_, _<_}
 use native.Mathlib.Omega.{arith}
 use native.Mathlib.Numerals.{add-one}
@@ -14,7 +14,7 @@ use Rattle.listing.specs.Progress.{Put, Listed}
 use Rattle.listing.proofs.Book.{rest-shorter, lines-go-on, lines-end}
 
 -- the lines of no bytes
-no-lines : (number : ℕ) → linesOf number [] ≡ []
+pub no-lines : (number : ℕ) → linesOf number [] ≡ []
 unfolding linesOf linesUpTo
 no-lines number = refl
 
@@ -35,6 +35,19 @@ take-middle : (pre text mid post : List ℕ) (u w : ℕ) → length pre ≡ u �
 take-middle pre text mid post u w a b =
     rw (← a, ← b, append-assoc text mid post)
     (take-append-add pre (text ++ (mid ++ post)) (length text) ∙ ap {B = List ℕ} (λ l. pre ++ l) (take-append-seam text (mid ++ post)))
+
+-- a text that is put into a buffer after its used part
+module _ (out last text : List ℕ) (used written : ℕ) (is-written : written ≡ length text) (room : used + written ≤ length out) (is-last : last ≡ text ++ drop (length text) (drop used out)) where
+  used-long : length (take used out) ≡ used
+  used-long = length-take-le used out (omega arith)
+
+  -- the buffer keeps its length
+  pub put-long : length (putMid used (length out - used) out last) ≡ length out
+  put-long = rw is-last (simp (length-append, length-drop, used-long) (omega arith))
+
+  -- and begins with the used part and the text
+  pub put-shown : take (used + written) (putMid used (length out - used) out last) ≡ take used out ++ text
+  put-shown = rw is-last (take-middle (take used out) text (drop (length text) (drop used out)) (drop (length out - used) (drop used out)) used written used-long (sym is-written))
 
 -- what is left of a list after a drop is what is left after as many as it took
 drop-taken : (b : ℕ) (s : List ℕ) → drop (length s - length (drop b s)) s ≡ drop b s
@@ -64,21 +77,17 @@ module _ (book : List ℕ) (at number : ℕ) (out : List ℕ) (used from n : ℕ
   last-is : last ≡ recordLine n (drop from book) ++ drop (length (recordLine n (drop from book))) (drop used out)
   last-is = rw (bytes-are, room-is) at (put .text-is)
 
-  -- the used part
-  used-long : length (take used out) ≡ used
-  used-long = length-take-le used out (omega (arith, before .room))
+  -- there is room for it
+  fits : used + turn .written ≤ length out
+  fits = omega (arith, put .short, before .room)
 
   -- the buffer keeps its length
   after-long : length (putMid used (length out - used) out last) ≡ length out
-  after-long =
-      rw last-is
-      (simp (length-append, length-drop, used-long) (omega (arith, written-is, put .short, before .room)))
+  after-long = put-long out last (recordLine n (drop from book)) used (turn .written) written-is fits last-is
 
   -- and begins with the lines so far and the new one
   after-is : take (used + turn .written) (putMid used (length out - used) out last) ≡ take used out ++ recordLine n (drop from book)
-  after-is =
-      rw last-is
-      (take-middle (take used out) (recordLine n (drop from book)) (drop (length (recordLine n (drop from book))) (drop used out)) (drop (length out - used) (drop used out)) used (turn .written) used-long (sym written-is))
+  after-is = put-shown out last (recordLine n (drop from book)) used (turn .written) written-is fits last-is
 
   -- there is a byte to be read
   some : 1 ≤ length (drop from book)

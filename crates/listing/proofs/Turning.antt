@@ -52,7 +52,7 @@ rest-within s rest e = rw (e, length-drop ((recordAt s) .bytes) s) (omega arith)
 -- ---- the line of a record
 
 -- a text that has room stands whole at the start of the buffer
-poured-whole : (text old : List ℕ) → length text ≤ length old → poured text old ≡ text ++ drop (length text) old
+pub poured-whole : (text old : List ℕ) → length text ≤ length old → poured text old ≡ text ++ drop (length text) old
 unfolding poured
 poured-whole text old h = rw (take-all (length old) text h)
 

@@ -1,16 +1,16 @@
--- The lines of a book.
+-- The listing of a book.
 use Prim.Native.Nat.{ℕ, zero, suc}
 use mathlib.Core.List.{List, [], _∷_, _++_}
 use lib.IntN.{ℤ, pos}
 use lib.ListN.{length, replicate}
-use lib.Dec.{eqb}
+use lib.Dec.{eqb, leb}
 use Rattle.laws.specs.Test.{pick}
 use Rattle.record.specs.declared.Record.{Record}
 use Rattle.record.specs.Answers.{readAnswer, restOf}
 use Rattle.judging.specs.declared.Verdict.the-variants.{Refused}
 use Rattle.judging.specs.declared.Judged.{Judged}
 use Rattle.judging.specs.Answer.{without, judgeAnswer, judgeBuffer}
-use Rattle.line.specs.Line.{judgedLine}
+use Rattle.line.specs.Line.{headerText, judgedLine}
 
 -- how many steps judging may take
 abbrev pub budget : ℕ
@@ -45,3 +45,7 @@ linesUpTo (suc k) number (b ∷ s) =
 -- all of them: a record takes a byte at least
 unfoldable pub linesOf : ℕ → List ℕ → List ℕ
 linesOf number s = linesUpTo (length s) number s
+
+-- the whole listing: the header, then the lines of the book, or of one above 65,536 bytes the line of refusal 10, numbered 0
+unfoldable pub listingOf : List ℕ → List ℕ
+listingOf book = headerText ++ pick (leb (length book) 65536) (linesOf 1 book) (judgedLine 0 0 (without (Refused 10 0)) [])

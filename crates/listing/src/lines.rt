@@ -1,4 +1,4 @@
-// The lines of a book, put into a lent buffer.
+// The listing of a book, put into a lent buffer part after part.
 use judging::Judged;
 use judging::Verdict;
 use record::Record;
@@ -7,7 +7,7 @@ ghost use Prim.Native.Nat.{_+_, _≤_, _<_};
 ghost use lib.ListN.{length};
 ghost use Rattle.judging.specs.Answer.{without};
 ghost use Rattle.listing.specs.Listing.{judgedRecord, literalsOf};
-ghost use Rattle.listing.specs.Progress.{Put, Listed};
+ghost use Rattle.listing.specs.Progress.{Put, Begun, Listed};
 
 // What putting one line came to: the bytes of the line, the bytes of the record, and its refusal, if any.
 struct Turn {
@@ -16,7 +16,7 @@ struct Turn {
     refusal: u32,
 }
 
-// What putting some lines came to: the bytes of these lines, and the place and number of the next record.
+// What putting a part of the listing came to: the bytes of the part, and the place and number of the next record.
 pub struct Progress {
     pub used: usize,
     pub at: usize,
@@ -24,7 +24,7 @@ pub struct Progress {
 }
 
 // A refusal with nothing beside it.
-pub fn refused(number: u32, place: usize) -> Judged
+fn refused(number: u32, place: usize) -> Judged
     ensures { λ r. ⌜ r ≡ without (Verdict.Refused number place) ⌝ }
 {
     Judged {
@@ -63,10 +63,32 @@ fn put_record(bytes: &[u8], number: u32, out: &mut [u8]) -> Turn
     }
 }
 
-// Puts lines at the start of out, from the record with a number at a place of the book on, until the book ends or a
-// further line might find no room.
-pub fn list_some(book: &[u8], at: usize, number: u32, out: &mut [u8]) -> Progress
-    requires { ⌜ (length (now book) ≤ 65536) × (at < length (now book)) × (number ≤ at + 1) × (8192 ≤ length (now out)) ⌝ }
+// Puts the first part of a book's listing at the start of out: the header, and where the book is too long the one line
+// that says so.
+pub fn first_part(book: &[u8], out: &mut [u8]) -> Progress
+    requires { ⌜ 16384 ≤ length (now out) ⌝ }
+    ensures { λ r. ⌜ Begun (now (book .entry)) (now (out .exit)) r ⌝ }
+{
+    let used = line::header(out);
+    if book.len() <= 65536 {
+        return Progress {
+            used,
+            at: 0,
+            number: 1,
+        };
+    }
+    let more = line::line(&mut out[used..], 0, 0, refused(10, 0), &[]);
+    Progress {
+        used: used + more,
+        at: book.len(),
+        number: 1,
+    }
+}
+
+// Puts the next part of it at the start of out: the lines from the record with a number at a place of the book on, until
+// the book ends or a further line might find no room.
+pub fn next_part(book: &[u8], at: usize, number: u32, out: &mut [u8]) -> Progress
+    requires { ⌜ (length (now book) ≤ 65537) × (at < length (now book)) × (number ≤ at + 1) × (8192 ≤ length (now out)) ⌝ }
     ensures { λ r. ⌜ Listed (now (book .entry)) at number (now (out .exit)) r ⌝ }
 {
     let mut used = 0;

@@ -3,20 +3,23 @@ mod lines;
 
 use libc::STDIN_FILENO;
 use libc::STDOUT_FILENO;
-use lines::list_some;
-use lines::refused;
+use lines::first_part;
+use lines::next_part;
 ghost use Prim.Native.Nat.{_≤_};
 ghost use lib.ListN.{length};
 
-// Writes the lines of a book, in parts of many lines.
+// Writes the listing of a book, part after part.
 fn list(book: &[u8])
-    requires { ⌜ length (now book) ≤ 65536 ⌝ }
+    requires { ⌜ length (now book) ≤ 65537 ⌝ }
 {
     let mut out = io::large_buffer();
-    let mut at = 0;
-    let mut number = 1;
+    let first = first_part(book, &mut out);
+    let used = first.used;
+    io::write_all(STDOUT_FILENO, &out[..used]);
+    let mut at = first.at;
+    let mut number = first.number;
     while at < book.len() {
-        let part = list_some(book, at, number, &mut out);
+        let part = next_part(book, at, number, &mut out);
         let used = part.used;
         io::write_all(STDOUT_FILENO, &out[..used]);
         at = part.at;
@@ -25,15 +28,7 @@ fn list(book: &[u8])
 }
 
 fn main() {
-    let mut out = io::buffer();
-    let used = line::header(&mut out);
-    io::write_all(STDOUT_FILENO, &out[..used]);
     let mut book = [0u8; 65537];
     let given = io::read_full(STDIN_FILENO, &mut book);
-    if 65536 < given {
-        let used = line::line(&mut out, 0, 0, refused(10, 0), &[]);
-        io::write_all(STDOUT_FILENO, &out[..used]);
-        return;
-    }
     list(&book[..given]);
 }

@@ -32,7 +32,7 @@ returns c =
     let lined = c .before .before .before in
     let judged = lined .before .before .before .before in
     let read = judged .before .before .before in
-    line-put _ _ _ _ _ _ _ _ _ (read .before .before .before .pre) (read .read .ensures) (judged .judged-record .ensures) (judged .judged-record .kept .1 .0) (lined .line .ensures) (c .rest .ensures)
+    line-put _ _ _ _ _ _ _ _ _ (read .before .before .before .pre) (read .read .ensures) (judged .judged-record .ensures) (judged .judged-record .kept .1 .0) (lined .line .ensures) (c .rest .ensures .0)
 
 pub put-record-spec : {M : Type 1} → statement M
 put-record-spec =

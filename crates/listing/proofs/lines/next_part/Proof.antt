@@ -4,8 +4,8 @@ use Prim.Native.Nat.{_-_}
 use mathlib.Core.Path.{_≡_}
 use lib.ListN.{length}
 use Rattle.listing.proofs.Parts.{SoFar, none-yet, ends-refused, takes-some, ends-here, goes-on}
-use Rattle.listing.proofs.lines.list_some.Statement.{statement}
-use Rattle.listing.proofs.lines.list_some.Tie as tie
+use Rattle.listing.proofs.lines.next_part.Statement.{statement}
+use Rattle.listing.proofs.lines.next_part.Tie as tie
 
 abbrev Inv-loop : tie.InvT-loop
 Inv-loop book at number out₀ used₀ from₀ n₀ out used from n = (length out ≡ length out₀) × SoFar book at number out used from n
@@ -89,8 +89,8 @@ loop-again c =
     let turn = fine .before .before .before .before .before in
     (search needs, goes-on _ _ _ _ _ _ _ _ _ (turn .before .before .before .loop .inv .1) (turn .put-record .ensures) (fine .if1 .left) (c .before .if2 .left) (c .if3 .left))
 
-pub list-some-spec : {M : Type 1} → statement M
-list-some-spec =
+pub next-part-spec : {M : Type 1} → statement M
+next-part-spec =
     tie.close
     (tie.spec
     Inv-loop
