@@ -7,15 +7,12 @@ use mathlib.Core.Logic.{_↔_, ⊎-elim}
 use Rattle.laws.specs.UpTo.{sumUpTo}
 use Rattle.laws.specs.UpToLaws.{sum-longer}
 use Rattle.rows.specs.Rows.{startAt, blockOf}
+use Rattle.arrangements.specs.Arrangement.{NoStart}
 
 -- one vertex more
 block-more : (starts v : ℕ) → blockOf starts (suc v) ≡ blockOf starts v + startAt starts (suc v)
 unfolding sumUpTo
 block-more starts v = refl
-
--- no start after u up to v
-abbrev pub NoStart : ℕ → ℕ → ℕ → Type 0
-NoStart starts u v = (w : ℕ) → u < w → w ≤ v → startAt starts w ≡ 0
 
 no-start-same : (starts u v : ℕ) → u ≤ v → NoStart starts u v → blockOf starts u ≡ blockOf starts v
 no-start-same starts u zero l h = let e : u ≡ 0 = omega arith in ap (blockOf starts) e

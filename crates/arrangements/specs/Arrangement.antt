@@ -9,7 +9,7 @@ use lib.Dec.{leb, eqb}
 use Rattle.laws.specs.Bit.{bit}
 use Rattle.laws.specs.Test.{both, pick}
 use Rattle.laws.specs.UpTo.{allUpTo, wordUpTo}
-use Rattle.rows.specs.Rows.{row, placed, blockOf}
+use Rattle.rows.specs.Rows.{row, placed, startAt, blockOf}
 
 -- p(i)
 abbrev pub at : List ℕ → ℕ → ℕ
@@ -75,3 +75,9 @@ placeOf p (suc n) v = pick (eqb (at p (suc n)) v) (suc n) (placeOf p n v)
 -- the inverse puts at v the place at which p has v
 unfoldable pub inverse : ℕ → List ℕ → List ℕ
 inverse n p = placed (placeOf p n) n
+
+-- ---- blocks
+
+-- no block starts after u up to v
+abbrev pub NoStart : ℕ → ℕ → ℕ → Type 0
+NoStart starts u v = (w : ℕ) → u < w → w ≤ v → startAt starts w ≡ 0

@@ -18,7 +18,8 @@ use Rattle.laws.specs.Bit.{bit}
 use Rattle.laws.specs.BitLaws.{bit-small, bit-of-zero, bits-past, below-of-bits, same-word, bit-of-low, bit-of-high, bit-of-or, bit-of-power, bit-of-power-other}
 use Rattle.laws.specs.Masks.{not-empty, lowest-set}
 use Rattle.rows.specs.Rows.{blockOf, startAt}
-use Rattle.arrangements.proofs.Blocks.{NoStart, one-block}
+use Rattle.arrangements.proofs.Blocks.{one-block}
+use Rattle.arrangements.specs.Arrangement.{NoStart}
 use Rattle.turns.specs.Turns.{allMarks}
 use Rattle.exploring.specs.Masks.{blockMask, Fresh}
 use Rattle.turns.proofs.AlikeRows.{all-bits}

@@ -24,7 +24,7 @@ use Rattle.graph.proofs.Drawn.{drawn-entry, drawn-formed}
 use Rattle.record.specs.declared.Extent.{Extent}
 use Rattle.record.specs.Layout.{startPlace, entryPlace, bitCount, byteCount}
 use Rattle.fields.specs.Bits.{bitOf}
-use Rattle.record.specs.Reading.{orderIn, startIn, startsIn, numberedIn, entryIn, isRefused, refusedIn, padIn, graphIn}
+use Rattle.record.specs.Reading.{orderIn, startIn, startsIn, numberedIn, entryIn, isRefused, refusedIn, padIn, graphIn, Bytes}
 use Rattle.record.specs.Writing.{entryBit, recordBit, recordOf}
 use Rattle.record.specs.Answers.{recordAt, readAnswer, restOf}
 use Rattle.fields.proofs.BitLaws.{bit-small}
@@ -120,10 +120,6 @@ module _ (f : ℕ → ℕ) (small : (k : ℕ) → f k < 2) (given : ℕ) (a : Ac
       by-below k (bitCount (orderIn f)) (entry-same k past later) (λ (l : bitCount (orderIn f) ≤ k). pad-same k l h)))
 
 -- ---- the theorems
-
--- the elements of a slice of bytes
-pub record Bytes (s : List ℕ) : Type 0 where
-  pub small : (k : ℕ) → getD s k 0 < 256
 
 -- a byte is made of its bits
 byte-bits : (s : List ℕ) → Bytes s → (k : ℕ) → num (bitOf s) (8 * k) 8 ≡ getD s k 0

@@ -19,7 +19,7 @@ use Rattle.pairs.specs.Pairs.{pairCount}
 use Rattle.record.specs.declared.Extent.{Extent}
 use Rattle.record.specs.Layout.{bitCount, byteCount}
 use Rattle.fields.specs.Bits.{bitOf}
-use Rattle.record.specs.Reading.{orderIn, numberedIn, isRefused, refusedIn, padIn, graphIn}
+use Rattle.record.specs.Reading.{orderIn, numberedIn, isRefused, refusedIn, padIn, graphIn, FirstRefused}
 use Rattle.record.specs.Writing.{recordOf}
 use Rattle.record.specs.Answers.{extent, recordIn, recordAt, readAnswer, restOf, written, writeAnswer, bufferAfter}
 
@@ -55,13 +55,6 @@ module _ (s : List ℕ) (refused : (readAnswer s) .refusal ≡ 0 → ⊥) where
   pub refused-graph : (readAnswer s) .graph ≡ noGraph
   unfolding readAnswer
   refused-graph = pick-false (eqb ((recordAt s) .refusal) 0) (graphIn (bitOf s)) noGraph (ne-eqb ((recordAt s) .refusal) 0 refused)
-
--- the number that comes with refusal 3 is that of a pair whose entry is 11, and no pair before it has one
-pub record FirstRefused (f : ℕ → ℕ) (n m : ℕ) : Type 0 where
-  pub low : 1 ≤ m
-  pub high : m ≤ pairCount n
-  pub is-refused : numberedIn f n m ≡ 3
-  pub none-before : (k : ℕ) → 1 ≤ k → k < m → numberedIn f n k ≡ 3 → ⊥
 
 -- what reading finds is the first
 pub first-refused : (f : ℕ → ℕ) (n k : ℕ) → refusedIn f n ≡ suc k → FirstRefused f n (suc k)

@@ -1,6 +1,9 @@
 -- What a function from place to bit says when it is read as a record.
-use Prim.Native.Nat.{ℕ, _-_, _*_}
+use Prim.Native.Nat.{ℕ, _-_, _*_, _≤_, _<_}
+use mathlib.Core.Path.{_≡_}
 use mathlib.Core.Bool.{Bool}
+use mathlib.Core.List.{List}
+use lib.ListN.{getD}
 use lib.Dec.{eqb}
 use Rattle.laws.specs.Test.{pick}
 use Rattle.laws.specs.UpTo.{wordUpTo}
@@ -46,3 +49,14 @@ padIn f n = num f (bitCount n) (8 * byteCount n - bitCount n)
 -- the graph
 unfoldable pub graphIn : (ℕ → ℕ) → Graph
 graphIn f = drawn (orderIn f) (startsIn f (orderIn f)) (entryIn f (orderIn f))
+
+-- the number that comes with refusal 3 is that of a pair whose entry is 11, and no pair before it has one
+pub record FirstRefused (f : ℕ → ℕ) (n m : ℕ) : Type 0 where
+  pub low : 1 ≤ m
+  pub high : m ≤ pairCount n
+  pub is-refused : numberedIn f n m ≡ 3
+  pub none-before : (k : ℕ) → 1 ≤ k → k < m → numberedIn f n k ≡ 3 → ⊥
+
+-- the elements of a slice of bytes
+pub record Bytes (s : List ℕ) : Type 0 where
+  pub small : (k : ℕ) → getD s k 0 < 256
