@@ -60,6 +60,7 @@ cases =
     ∷ record { order = 3; starts = 1; entries = 0 ∷ 1 ∷ 0 ∷ []; bytes = 0x0c ∷ 0x10 ∷ []; budget = 1000; verdict = Smaller 1 3 7; arrangement = 2 ∷ 1 ∷ 3 ∷ []; literals = negsuc 1 ∷ pos 3 ∷ [] }
     ∷ record { order = 3; starts = 1; entries = 1 ∷ 1 ∷ 0 ∷ []; bytes = 0x0c ∷ 0x50 ∷ []; budget = 1000; verdict = Smaller 1 3 8; arrangement = 2 ∷ 1 ∷ 3 ∷ []; literals = negsuc 1 ∷ pos 3 ∷ [] }
     ∷ record { order = 3; starts = 7; entries = 1 ∷ 0 ∷ 0 ∷ []; bytes = 0x0f ∷ 0x40 ∷ []; budget = 1000; verdict = Nothing 3; arrangement = []; literals = [] }
+    ∷ record { order = 3; starts = 5; entries = 0 ∷ 1 ∷ 0 ∷ []; bytes = 0x0d ∷ 0x10 ∷ []; budget = 1000; verdict = Smaller 1 3 6; arrangement = 2 ∷ 1 ∷ 3 ∷ []; literals = negsuc 1 ∷ pos 3 ∷ [] }
     ∷ record { order = 3; starts = 1; entries = u ∷ u ∷ u ∷ []; bytes = 0x0c ∷ 0xa8 ∷ []; budget = 1000; verdict = Nothing 11; arrangement = []; literals = [] }
     ∷ record { order = 3; starts = 1; entries = 0 ∷ 1 ∷ u ∷ []; bytes = 0x0c ∷ 0x18 ∷ []; budget = 1000; verdict = Nothing 11; arrangement = []; literals = [] }
     ∷ record { order = 4; starts = 1; entries = u ∷ 1 ∷ u ∷ u ∷ 0 ∷ 0 ∷ []; bytes = 0x10 ∷ 0x4d ∷ 0x00 ∷ []; budget = 1000; verdict = Smaller 1 3 13; arrangement = 2 ∷ 1 ∷ 4 ∷ 3 ∷ []; literals = negsuc 1 ∷ pos 5 ∷ [] }
@@ -98,6 +99,7 @@ expected c =
       read = record { refusal = 0; place = 0; graph = graphOf c };
     }
 
+-- the claim: each case gives what is expected of it
 worked : map given cases ≡ map expected cases
 unfolding both either pick unless allUpTo sumUpTo wordUpTo listUpTo chosenUpTo step ending walk met literals sameLiteral among numbered clauseAfter clause absent mayFollow children whereOpen subtree subtrees reached onWon tryAll searched withFirst completed placed mirrored drawn pairFits rowFits startsFit orderFits wellFormed alongRow fromRow pairs samePair pairOfTwo image walkAll literalsOf clauseOf judgedOn judgementOf judged found padded certificateOf without standingPair smaller answerFor judgeAnswer atStart judgeBuffer flatMap num firstUpTo orElse bitCount byteCount bitOf orderIn startIn startsIn numberedIn entryIn isRefused refusedIn padIn graphIn entryBit recordBit recordByte recordOf recordIn recordAt readAnswer bufferAfter
 worked = refl
