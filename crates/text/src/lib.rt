@@ -2,4 +2,5 @@
 pub mod decimal;
 pub mod lists;
 pub mod page;
+pub mod parts;
 pub mod table;

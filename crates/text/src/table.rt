@@ -1,6 +1,6 @@
 // Tables of text: rows that end with a line's end, with digits at their columns.
 ghost use mathlib.Core.Path.{_≡_};
-ghost use Prim.Native.Nat.{_+_, _<_};
+ghost use Prim.Native.Nat.{_+_, _%_, _<_};
 ghost use lib.ListN.{drop};
 ghost use Rattle.text.specs.Table.{rowLength, digitValue, digitAt, hexFrom};
 
@@ -53,4 +53,11 @@ pub fn hex_at(row: &[u8], column: u32, digits: u32) -> u64
         i += 1;
     }
     value
+}
+
+// The byte of two hexadecimal digits from a column on.
+pub fn byte_at(row: &[u8], column: u32) -> u8
+    ensures { λ r. ⌜ r ≡ hexFrom (now (row .entry)) column 2 0 % 256 ⌝ }
+{
+    (hex_at(row, column, 2) % 256) as u8
 }
