@@ -2,21 +2,13 @@
 use Prim.Native.Nat.{ℕ, suc, _+_, _≤_, _<_}
 use native.Mathlib.Omega.{arith}
 use native.Mathlib.Nat.{eq-or-lt-of-le}
-use mathlib.Core.Path.{_≡_, refl, sym, _∙_, ap}
+use mathlib.Core.Path.{_≡_, refl, _∙_, ap}
 use mathlib.Core.Logic.{_⊎_, inl, inr, _≢_, ⊎-elim}
-use mathlib.Core.List.{List, [], _∷_, _++_, concat-ne-nil, head-eq-of-cons-eq, tail-eq-of-cons-eq, List·Memᴰ, List·Memᴰ·head, List·Memᴰ·tail, List·Memᴰ·not-nil, List·Memᴰ·cases-cons}
+use mathlib.Core.List.{List, [], _∷_, _++_, List·Memᴰ, List·Memᴰ·head, List·Memᴰ·tail, List·Memᴰ·not-nil, List·Memᴰ·cases-cons}
 use lib.ListN.{length}
-use lib.Dec.{ltb}
-use mathlib.Core.Bool.{Bool, true, false}
 use borrow.Author.Tests.{lt-ltb, le-ltb}
 use Rattle.laws.specs.Test.{pick}
-use Rattle.beginnings.specs.Search.{Judgement, won, lost, «open», NoneWon, FirstWon, unlessWon, throughWon, Found, cut, none, first, onWon, tryAll}
-
--- what a search finds where one that found nothing in its steps goes on from there
-unfoldable pub goOn : Found → (ℕ → Found) → Found
-goOn cut later = cut
-goOn (none steps) later = later steps
-goOn (first b steps) later = first b steps
+use Rattle.beginnings.specs.Search.{Judgement, won, lost, «open», NoneWon, FirstWon, unlessWon, throughWon, cut, none, first, onWon, tryAll}
 
 module _ (judged : List ℕ → Judgement) where
   -- ---- one turn at a time
@@ -45,18 +37,6 @@ module _ (judged : List ℕ → Judgement) where
       go won e = absurd (ne e)
       go lost e = refl
       go «open» e = refl
-
-  -- a list joined to another is tried first
-  pub try-append : (bs cs : List (List ℕ)) (steps budget : ℕ) → tryAll judged (bs ++ cs) steps budget ≡ goOn (tryAll judged bs steps budget) (λ s. tryAll judged cs s budget)
-  unfolding tryAll goOn pick onWon
-  try-append [] cs steps budget = refl
-  try-append (b ∷ bs) cs steps budget = go (ltb steps budget) (judged b) (try-append bs cs (suc steps) budget)
-    where
-      go : (t : Bool) (j : Judgement) → tryAll judged (bs ++ cs) (suc steps) budget ≡ goOn (tryAll judged bs (suc steps) budget) (λ s. tryAll judged cs s budget) → pick t (onWon j (first b (suc steps)) (tryAll judged (bs ++ cs) (suc steps) budget)) cut ≡ goOn (pick t (onWon j (first b (suc steps)) (tryAll judged bs (suc steps) budget)) cut) (λ s. tryAll judged cs s budget)
-      go true won below = refl
-      go true lost below = below
-      go true «open» below = below
-      go false j below = refl
 
   -- ---- the first won one
 
@@ -118,23 +98,6 @@ module _ (judged : List ℕ → Judgement) where
   pub through-first : (before : List (List ℕ)) (b : List ℕ) (after : List (List ℕ)) → NoneWon judged before → judged b ≡ won → throughWon judged (before ++ (b ∷ after)) ≡ before ++ (b ∷ [])
   through-first [] b after h e = through-won b after e
   through-first (c ∷ before) b after h e = through-past c (before ++ (b ∷ after)) (h c (List·Memᴰ·head refl)) ∙ ap (λ (l : List (List ℕ)). c ∷ l) (through-first before b after (λ x m. h x (List·Memᴰ·tail m)) e)
-
-  -- and where it ends with a won one, that is the first
-  pub first-of-last : (bs before : List (List ℕ)) (b : List ℕ) → throughWon judged bs ≡ before ++ (b ∷ []) → judged b ≡ won → FirstWon judged bs b
-  first-of-last [] before b e w = absurd (concat-ne-nil b before (sym e ∙ nothing))
-    where
-      nothing : throughWon judged [] ≡ []
-      nothing = through-none [] none-nil
-  first-of-last (c ∷ bs) before b e w = go (won-or-not c) before e (λ rest q. first-of-last bs rest b q w)
-    where
-      here : b ≡ c → FirstWon judged (c ∷ bs) b
-      here q = record { before = []; after = bs; split = rw q refl; none-before = none-nil; wins = w }
-
-      go : (judged c ≡ won) ⊎ (judged c ≢ won) → (rest : List (List ℕ)) → throughWon judged (c ∷ bs) ≡ rest ++ (b ∷ []) → ((more : List (List ℕ)) → throughWon judged bs ≡ more ++ (b ∷ []) → FirstWon judged bs b) → FirstWon judged (c ∷ bs) b
-      go (inl v) [] q below = here (sym (head-eq-of-cons-eq (sym (through-won c bs v) ∙ q)))
-      go (inl v) (d ∷ rest) q below = absurd (concat-ne-nil b rest (sym (tail-eq-of-cons-eq (sym (through-won c bs v) ∙ q))))
-      go (inr ne) [] q below = absurd (ne (ap judged (head-eq-of-cons-eq (sym (through-past c bs ne) ∙ q)) ∙ w))
-      go (inr ne) (d ∷ rest) q below = later ne (below rest (tail-eq-of-cons-eq (sym (through-past c bs ne) ∙ q)))
 
   -- ---- the whole list
 

@@ -9,7 +9,7 @@ use lib.Seq.{append-snoc, take-append-seam}
 use Rattle.beginnings.specs.Order.{Before}
 use Rattle.beginnings.specs.Search.{Judgement, won, lost, «open», IsReached, NoneWon, FirstWon, reached, stepsNeeded, none, first, searched}
 use Rattle.beginnings.specs.Certificate.{Certificate, Stays, completed}
-use Rattle.beginnings.proofs.Order.{before-irrefl, before-trans, before-how, rising-end}
+use Rattle.beginnings.proofs.Order.{before-how, rising-end}
 use Rattle.beginnings.proofs.Follows.{Follows, beginning-follows}
 use Rattle.beginnings.proofs.Subtree.{Reaches}
 use Rattle.beginnings.proofs.Reached.{is-reached, reached-sound, reached-complete, reached-rises}
@@ -67,15 +67,6 @@ module _ (n : ℕ) (block : ℕ → ℕ) (judged : List ℕ → Judgement) where
   -- what the search finds is reached and won
   pub found-reached : (budget : ℕ) (b : List ℕ) (s : ℕ) → searched n block judged budget ≡ first b s → IsReached n block judged b × (judged b ≡ won)
   found-reached budget b s e = let f = first-exactly n block judged budget b s .0 e .2 in (first-reached b f, f .wins)
-
-  -- two certificates that no other comes before are one
-  pub first-unique : (p q : List ℕ) → Certificate n block judged p → Certificate n block judged q → ((r : List ℕ) → Certificate n block judged r → (r ≡ p) ⊎ Before p r) → ((r : List ℕ) → Certificate n block judged r → (r ≡ q) ⊎ Before q r) → p ≡ q
-  first-unique p q k l f g = go (f q l) (g p k)
-    where
-      go : (q ≡ p) ⊎ Before p q → (p ≡ q) ⊎ Before q p → p ≡ q
-      go (inl e) y = sym e
-      go (inr h) (inl e) = e
-      go (inr h) (inr i) = absurd (before-irrefl p (before-trans p q p h i))
 
   module _ (won-stays : Stays n block judged won) (lost-stays : Stays n block judged lost) where
     -- ---- a certificate has a reached and won beginning

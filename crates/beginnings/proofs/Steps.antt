@@ -1,15 +1,15 @@
 -- The count of steps: within the budget the search finds what there is, with the steps needed; short of it, it is cut.
-use Prim.Native.Nat.{ℕ, suc, _+_, _-_, _≤_, _<_, min}
+use Prim.Native.Nat.{ℕ, suc, _+_, _-_, _≤_, _<_}
 use native.Mathlib.Omega.{arith}
 use native.Mathlib.Decide.{decLe}
-use mathlib.Core.Path.{_≡_, sym, _∙_, ap}
+use mathlib.Core.Path.{_≡_, _∙_, ap}
 use mathlib.Core.Logic.{_⊎_, inl, inr, _≢_, _↔_, ⊎-elim}
 use mathlib.Core.List.{List, [], _∷_, _++_}
 use lib.ListN.{length, length-append}
 use Rattle.beginnings.specs.Search.{Judgement, won, NoneWon, FirstWon, throughWon, subtrees, reached, needed, stepsNeeded, cut, none, first, told, searched}
 use Rattle.beginnings.proofs.Completed.{first-exists}
 use Rattle.beginnings.proofs.Subtree.{subtrees-more, subtree-root}
-use Rattle.beginnings.proofs.Count.{none-or-first, through-none, through-first, first-of-last, try-all, try-first, try-short, through-some}
+use Rattle.beginnings.proofs.Count.{none-or-first, through-none, through-first, try-all, try-first, try-short, through-some}
 
 module _ (n : ℕ) (block : ℕ → ℕ) (judged : List ℕ → Judgement) where
   -- ---- the two answers, and the cut
@@ -23,10 +23,6 @@ module _ (n : ℕ) (block : ℕ → ℕ) (judged : List ℕ → Judgement) where
   needed-first : (b : List ℕ) (f : FirstWon judged (reached n block judged) b) → needed n block judged ≡ f .before ++ (b ∷ [])
   unfolding needed
   needed-first b f = ap (throughWon judged) (f .split) ∙ through-first judged (f .before) b (f .after) (f .none-before) (f .wins)
-
-  last-first : (before : List (List ℕ)) (b : List ℕ) → needed n block judged ≡ before ++ (b ∷ []) → judged b ≡ won → FirstWon judged (reached n block judged) b
-  unfolding needed
-  last-first before b e w = first-of-last judged (reached n block judged) before b e w
 
   -- none is won: none, with the steps needed
   pub within-none : (budget : ℕ) → NoneWon judged (reached n block judged) → stepsNeeded n block judged ≤ budget → searched n block judged budget ≡ none (stepsNeeded n block judged)
@@ -62,13 +58,6 @@ module _ (n : ℕ) (block : ℕ → ℕ) (judged : List ℕ → Judgement) where
       (λ (h : (b : List ℕ) × FirstWon judged (reached n block judged) b). inr (h .0, h .1, within-first budget (h .0) (h .1) l))
       (none-or-first judged (reached n block judged))
 
-  -- every budget that reaches gives the same answer
-  pub same-within : (budget more : ℕ) → stepsNeeded n block judged ≤ budget → stepsNeeded n block judged ≤ more → searched n block judged budget ≡ searched n block judged more
-  same-within budget more l m =
-      ⊎-elim (λ (h : NoneWon judged (reached n block judged)). within-none budget h l ∙ sym (within-none more h m))
-      (λ (h : (b : List ℕ) × FirstWon judged (reached n block judged) b). within-first budget (h .0) (h .1) l ∙ sym (within-first more (h .0) (h .1) m))
-      (none-or-first judged (reached n block judged))
-
   -- such an answer is no cut, and it tells the steps needed
   pub within : (budget : ℕ) → stepsNeeded n block judged ≤ budget → (searched n block judged budget ≢ cut) × (told budget (searched n block judged budget) ≡ stepsNeeded n block judged)
   unfolding told
@@ -77,15 +66,6 @@ module _ (n : ℕ) (block : ℕ → ℕ) (judged : List ℕ → Judgement) where
       go : Answer budget → (searched n block judged budget ≢ cut) × (told budget (searched n block judged budget) ≡ stepsNeeded n block judged)
       go (inl h) = (λ q. let z : _≡_ {A = ℕ} 0 1 = cc (q, h .1) in omega arith, ap (told budget) (h .1))
       go (inr h) = (λ q. let z : _≡_ {A = ℕ} 0 1 = cc (q, h .2) in omega arith, ap (told budget) (h .2))
-
-  -- in all, the number told is the smaller of the steps needed and the budget
-  pub told-steps : (budget : ℕ) → told budget (searched n block judged budget) ≡ min (stepsNeeded n block judged) budget
-  unfolding told
-  told-steps budget = go (decLe (stepsNeeded n block judged) budget)
-    where
-      go : Dec (stepsNeeded n block judged ≤ budget) → told budget (searched n block judged budget) ≡ min (stepsNeeded n block judged) budget
-      go (yes l) = omega (arith, within budget l .1)
-      go (no l) = let e : searched n block judged budget ≡ cut = short budget (omega arith) in rw e (omega arith)
 
   -- ---- read off the answer
 
@@ -120,13 +100,6 @@ module _ (n : ℕ) (block : ℕ → ℕ) (judged : List ℕ → Judgement) where
       go : searched n block judged budget ≡ first b s → stepsNeeded n block judged ≤ budget → Answer budget → (stepsNeeded n block judged ≤ budget) × (s ≡ stepsNeeded n block judged) × FirstWon judged (reached n block judged) b
       go q l (inl h) = let z : _≡_ {A = ℕ} 0 1 = cc (q, h .1) in absurd (omega arith)
       go q l (inr h) = let e : h .0 ≡ b = cc (q, h .2) in (l, cc (q, h .2), rw e at (h .1))
-
-  -- the first won one is the last of those needed, and won
-  pub first-is-last : (b : List ℕ) → FirstWon judged (reached n block judged) b ↔ (((before : List (List ℕ)) × (needed n block judged ≡ before ++ (b ∷ []))) × (judged b ≡ won))
-  first-is-last b = (λ f. ((f .before, needed-first b f), f .wins), back)
-    where
-      back : ((before : List (List ℕ)) × (needed n block judged ≡ before ++ (b ∷ []))) × (judged b ≡ won) → FirstWon judged (reached n block judged) b
-      back h = last-first (h .0 .0) b (h .0 .1) (h .1)
 
   -- ---- a budget of 0
 

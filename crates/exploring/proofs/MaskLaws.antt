@@ -130,10 +130,6 @@ module _ (n : ℕ) (block : ℕ → ℕ) where
     pub used-fits : (used : ℕ) → used ≡ usedMask b → used < 2 ^ n
     used-fits used e = rw e used-below
 
-    -- one in use has bit 1
-    pub present-bit : (v : ℕ) → 1 ≤ v → absent b v ≡ false → bit (usedMask b) (v - 1) ≡ 1
-    present-bit v l e = used-bit v l ∙ pick-false (absent b v) 0 1 e
-
 -- ---- the vertices of a block
 
 module _ (block : ℕ → ℕ) (n i : ℕ) where

@@ -94,14 +94,6 @@ unfolding chosenUpTo
 chosen-same f g zero h = refl
 chosen-same f g (suc n) h = more-same f g n [] (h (suc n) (omega arith) (omega arith)) (chosen-same f g n (λ v l u. h v l (omega arith)))
 
--- nothing is chosen past m where nothing passes there
-pub chosen-longer : (f : ℕ → Bool) (m n : ℕ) → m ≤ n → ((v : ℕ) → m < v → v ≤ n → f v ≡ false) → chosenUpTo f n ≡ chosenUpTo f m
-chosen-longer f m zero l h = let e : m ≡ 0 = omega arith in rw e refl
-chosen-longer f m (suc n) l h =
-    ⊎-elim (λ (k : m ≤ n). chosen-past f n (h (suc n) (omega arith) (omega arith)) ∙ chosen-longer f m n k (λ v a b. h v a (omega arith)))
-    (λ (e : m ≡ suc n). rw e refl)
-    (le-suc-iff .0 l)
-
 -- the smallest that passes comes first, and then those of the test without it
 pub chosen-first : (f g : ℕ → Bool) (n v : ℕ) → 1 ≤ v → v ≤ n → f v ≡ true → ((w : ℕ) → 1 ≤ w → w < v → f w ≡ false) → g v ≡ false → ((w : ℕ) → 1 ≤ w → w ≤ n → w ≢ v → f w ≡ g w) → chosenUpTo f n ≡ v ∷ chosenUpTo g n
 chosen-first f g zero v low high passes least gone same = absurd (omega arith)

@@ -1,9 +1,9 @@
 -- Lists: joined, without repeats, and of numbers that follow one another.
 use Prim.Native.Nat.{ℕ, zero, suc, _+_, _≤_, _<_}
 use native.Mathlib.Omega.{arith}
-use mathlib.Core.Path.{_≡_, refl, sym, ap, subst, _∙_}
+use mathlib.Core.Path.{_≡_, refl, sym, ap, _∙_}
 use mathlib.Core.Logic.{⊎-elim}
-use mathlib.Core.List.{List, [], _∷_, _++_, map, head-eq-of-cons-eq, tail-eq-of-cons-eq, List·Memᴰ, List·Memᴰ·head, List·Memᴰ·tail, List·Memᴰ·cases-cons, List·Memᴰ·not-nil, Memᴰ·map, Memᴰ·append-right}
+use mathlib.Core.List.{List, [], _∷_, _++_, map, List·Memᴰ, List·Memᴰ·head, List·Memᴰ·tail, List·Memᴰ·cases-cons, List·Memᴰ·not-nil, Memᴰ·map}
 use lib.ListN.{length, getD}
 use Rattle.laws.specs.UpTo.{listUpTo}
 
@@ -38,18 +38,6 @@ pub no-repeats-of-map : {A B : Type 0} (f : A → B) (l : List A) → NoRepeats 
 unfolding NoRepeats
 no-repeats-of-map f [] h = tt
 no-repeats-of-map f (x ∷ l) h = (λ m. h .0 (Memᴰ·map f m), no-repeats-of-map f l (h .1))
-
--- a list without repeats splits at an element in one way
-pub one-split : {A : Type 0} (k : A) (xs ys xs′ ys′ : List A) → NoRepeats (xs ++ k ∷ ys) → xs ++ k ∷ ys ≡ xs′ ++ k ∷ ys′ → (xs ≡ xs′) × (ys ≡ ys′)
-unfolding NoRepeats
-one-split k [] ys [] ys′ h e = (refl, tail-eq-of-cons-eq e)
-one-split {A} k [] ys (x ∷ xs′) ys′ h e =
-    absurd (h .0 (subst (λ (l : List A). List·Memᴰ k l) (sym (tail-eq-of-cons-eq e)) (Memᴰ·append-right xs′ (List·Memᴰ·head refl))))
-one-split {A} k (x ∷ xs) ys [] ys′ h e =
-    absurd (h .0 (subst (λ (a : A). List·Memᴰ a (xs ++ k ∷ ys)) (sym (head-eq-of-cons-eq e)) (Memᴰ·append-right xs (List·Memᴰ·head refl))))
-one-split {A} k (x ∷ xs) ys (x′ ∷ xs′) ys′ h e =
-    let rest = one-split k xs ys xs′ ys′ (h .1) (tail-eq-of-cons-eq e) in
-    (λ i. head-eq-of-cons-eq e i ∷ rest .0 i, rest .1)
 
 -- ---- numbers that follow one another
 

@@ -10,7 +10,7 @@ use lib.Pow.{pow-mono}
 use lib.Bits.{bitAnd, and-step, and-le-l}
 use lib.Count.{trailingZeros, under}
 use lib.Dec.{eqb}
-use borrow.Author.Tests.{eqb-false, eq-eqb, ne-eqb}
+use borrow.Author.Tests.{eq-eqb, ne-eqb}
 use Rattle.laws.specs.Compared.{by-below}
 use Rattle.laws.specs.Bit.{bit, withBit}
 use Rattle.laws.specs.BitLaws.{bit-lowest, bit-of-zero, bit-of-half, bits-past, bit-in, withBit-same, withBit-other, withBit-below}
@@ -72,14 +72,6 @@ without-lacks a b k e = omega (arith, bit-of-without a b k)
 pub without-has : (a b k : ℕ) → bit b k ≡ 1 → bit (a - bitAnd a b) k ≡ 0
 without-has a b k e = omega (arith, bit-of-without a b k)
 
--- a without b is no more than a
-pub without-le : (a b : ℕ) → a - bitAnd a b ≤ a
-without-le a b = omega arith
-
--- so it is a mask of n bits where a is
-pub without-below : (a b n : ℕ) → a < 2 ^ n → a - bitAnd a b < 2 ^ n
-without-below a b n h = omega arith
-
 -- ---- the members
 
 -- v is marked where its bit is 1
@@ -102,12 +94,9 @@ pub no-members : (n : ℕ) → members 0 n ≡ []
 unfolding members
 no-members n = chosen-none (marked 0) n (λ v l u. not-marked 0 v (bit-of-zero (v - 1)))
 
--- a mask that is not 0 is more, told as a fact or as a test
+-- a mask that is not 0 is more
 pub not-empty : (m : ℕ) → m ≢ 0 → 0 < m
 not-empty m d = omega arith
-
-pub tested-not-empty : (m : ℕ) → eqb m 0 ≡ false → 0 < m
-tested-not-empty m e = not-empty m (eqb-false m 0 e)
 
 -- ---- the lowest member
 

@@ -68,12 +68,6 @@ unfolding both
 both-after true b e = refl
 both-after false b e = absurd (false≢true e)
 
--- where they don't both hold, one fails
-pub one-fails : (a b : Bool) → both a b ≡ false → (a ≡ false) ⊎ (b ≡ false)
-unfolding both
-one-fails true b e = inr e
-one-fails false b e = inl refl
-
 -- ---- either
 
 -- one holds where the first does
@@ -87,12 +81,6 @@ pub either-second : (a b : Bool) → b ≡ true → either a b ≡ true
 unfolding either
 either-second true b e = refl
 either-second false b e = e
-
--- after a first test that fails, the second decides
-pub either-after : (a b : Bool) → a ≡ false → either a b ≡ b
-unfolding either
-either-after true b e = absurd (true≢false e)
-either-after false b e = refl
 
 -- where one of them holds, it is the first or the second
 pub one-holds : (a b : Bool) → either a b ≡ true → (a ≡ true) ⊎ (b ≡ true)

@@ -6,9 +6,8 @@ use mathlib.Core.Bool.{Bool, true, false}
 use mathlib.Core.List.{List, [], _∷_, _++_}
 use native.Mathlib.Nat.{le-suc-iff, pow-suc, mul-le-mul-right, mod-eq-of-lt}
 use native.Mathlib.Omega.{arith}
-use lib.ListN.{length, getD, length-append, List·getD-append, List·getD-eq-default}
+use lib.ListN.{length, getD, length-append, List·getD-append}
 use lib.Seq.{getD-at}
-use Rattle.laws.specs.Test.{both}
 use Rattle.laws.specs.TestLaws.{both-first, both-second, both-hold, first-fails, second-fails}
 use Rattle.laws.specs.Bit.{bit}
 use Rattle.laws.specs.BitLaws.{bit-lowest, bit-of-low, bit-of-high, bits-past, same-word}
@@ -41,12 +40,6 @@ all-fail f (suc n) k l h e =
     (λ (q : k ≡ suc n). second-fails (allUpTo f n) (f (suc n)) (rw q at e))
     (le-suc-iff .0 h)
 
--- tests that agree on 1..n
-pub all-same : (f g : ℕ → Bool) (n : ℕ) → ((k : ℕ) → 1 ≤ k → k ≤ n → f k ≡ g k) → allUpTo f n ≡ allUpTo g n
-unfolding allUpTo
-all-same f g zero e = refl
-all-same f g (suc n) e = ap₂ both (all-same f g n (λ k l h. e k l (omega arith))) (e (suc n) (omega arith) (omega arith))
-
 -- ---- sums
 
 -- sums of functions that agree on 1..n
@@ -67,12 +60,6 @@ unfolding sumUpTo
 sum-added h f g zero e = refl
 sum-added h f g (suc n) e = omega (arith, sum-added h f g n (λ k l m. e k l (omega arith)), e (suc n) (omega arith) (omega arith))
 
--- a sum of smaller terms
-pub sum-mono : (f g : ℕ → ℕ) (n : ℕ) → ((k : ℕ) → 1 ≤ k → k ≤ n → f k ≤ g k) → sumUpTo f n ≤ sumUpTo g n
-unfolding sumUpTo
-sum-mono f g zero e = omega arith
-sum-mono f g (suc n) e = omega (arith, sum-mono f g n (λ k l h. e k l (omega arith)), e (suc n) (omega arith) (omega arith))
-
 -- terms up to b
 pub sum-bound : (f : ℕ → ℕ) (b n : ℕ) → ((k : ℕ) → 1 ≤ k → k ≤ n → f k ≤ b) → sumUpTo f n ≤ n * b
 unfolding sumUpTo
@@ -86,13 +73,6 @@ sum-longer f zero zero h = omega arith
 sum-longer f (suc m) zero h = absurd (omega arith)
 sum-longer f m (suc n) h =
     ⊎-elim (λ (l : m ≤ n). omega (arith, sum-longer f m n l)) (λ (q : m ≡ suc n). rw q (omega arith)) (le-suc-iff .0 h)
-
--- a sum is at least each of its terms
-pub sum-at : (f : ℕ → ℕ) (n k : ℕ) → 1 ≤ k → k ≤ n → f k ≤ sumUpTo f n
-unfolding sumUpTo
-sum-at f zero k l h = absurd (omega arith)
-sum-at f (suc n) k l h =
-    ⊎-elim (λ (m : k ≤ n). omega (arith, sum-at f n k l m)) (λ (q : k ≡ suc n). rw q (omega arith)) (le-suc-iff .0 h)
 
 -- ---- words
 
@@ -161,12 +141,6 @@ list-at f (suc n) i d l h =
     let place : length (listUpTo f n) ≡ i - 1 = omega arith in
     getD-at (listUpTo f n) (f (suc n)) [] d (i - 1) place ∙ ap f (sym q))
     (le-suc-iff .0 h)
-
--- past the n elements there is the default
-pub list-past : {A : Type 0} (f : ℕ → A) (n i : ℕ) (d : A) → n < i → getD (listUpTo f n) (i - 1) d ≡ d
-list-past f n i d h =
-    let long : length (listUpTo f n) ≡ n = list-length f n in
-    List·getD-eq-default (listUpTo f n) d (omega arith)
 
 -- lists of functions that agree on 1..n
 pub list-same : {A : Type 0} (f g : ℕ → A) (n : ℕ) → ((k : ℕ) → 1 ≤ k → k ≤ n → f k ≡ g k) → listUpTo f n ≡ listUpTo g n

@@ -6,9 +6,11 @@ use fields::put_line;
 use judging::Judged;
 use judging::Verdict;
 use text::page::put;
+use text::parts::first_bytes;
+use text::parts::first_signed;
 ghost use mathlib.Core.Path.{_≡_};
 ghost use Prim.Native.Nat.{min};
-ghost use lib.ListN.{length, take};
+ghost use lib.ListN.{length};
 ghost use Rattle.text.specs.Page.{poured};
 ghost use Rattle.line.specs.Line.{headerText, judgedLine};
 
@@ -23,26 +25,6 @@ pub fn header(out: &mut [u8]) -> usize
     )
 }
 
-// The first of the places, as many as there are to be.
-fn first_places(places: &[u8], count: usize) -> &[u8]
-    ensures { λ r. ⌜ now r ≡ take count (now (places .entry)) ⌝ }
-{
-    if count < places.len() {
-        return &places[..count];
-    }
-    places
-}
-
-// The first of the literals, as many as there are to be.
-fn first_literals(literals: &[i32], count: usize) -> &[i32]
-    ensures { λ r. ⌜ now r ≡ take count (now (literals .entry)) ⌝ }
-{
-    if count < literals.len() {
-        return &literals[..count];
-    }
-    literals
-}
-
 // Puts the line of the record with this number at the start of out, as much of it as there is room for, and answers how
 // many bytes that is. The record's graph has this order, and judging it gave judged and wrote to literals.
 pub fn line(out: &mut [u8], number: u32, order: u32, judged: Judged, literals: &[i32]) -> usize
@@ -52,8 +34,8 @@ pub fn line(out: &mut [u8], number: u32, order: u32, judged: Judged, literals: &
     match verdict {
         Verdict::Smaller { row, column, steps } => {
             let arrangement = judged.arrangement;
-            let places = first_places(&arrangement, order as usize);
-            let clause = first_literals(literals, judged.literals);
+            let places = first_bytes(&arrangement, order as usize);
+            let clause = first_signed(literals, judged.literals);
             put_line(
                 out,
                 number,

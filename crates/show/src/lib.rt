@@ -22,3 +22,35 @@ pub fn byte(b: u8) {
     text(b" ");
     io::print_hex(STDOUT_FILENO, b as u64, 2);
 }
+
+// A row of a table from a column on.
+pub fn from_column(row: &[u8], column: usize) {
+    if column < row.len() {
+        text(&row[column..]);
+    }
+}
+
+// The byte at an index of a template, or the next value where that is a #. Gives the index of the value after it.
+fn filled_at(template: &[u8], i: usize, values: [u64; 6], k: usize) -> usize {
+    if i < template.len() {
+        if template[i] != b'#' {
+            text(&template[i..i + 1]);
+            return k;
+        }
+        if k < 6 {
+            io::print_decimal(STDOUT_FILENO, values[k]);
+            return k + 1;
+        }
+    }
+    k
+}
+
+// A template with the values put where it has #, one after the other.
+pub fn filled(template: &[u8], values: [u64; 6]) {
+    let mut k = 0;
+    let mut i = 0;
+    while i < template.len() {
+        k = filled_at(template, i, values, k);
+        i += 1;
+    }
+}

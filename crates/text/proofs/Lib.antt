@@ -5,3 +5,4 @@ pub mod Commas
 pub mod Poured
 pub mod Taken
 pub mod Lengths
+pub mod Tables

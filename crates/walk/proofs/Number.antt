@@ -3,8 +3,7 @@ use Prim.Native.Nat.{ℕ, suc, _-_, _≤_}
 use native.Mathlib.Omega.{arith}
 use mathlib.Core.Path.{_≡_, refl, sym, _∙_, ap}
 use mathlib.Core.List.{List, [], _∷_, _++_, List·Memᴰ, List·Memᴰ·head, List·Memᴰ·tail}
-use lib.ListN.{length, getD, take, drop, length-append}
-use lib.Seq.{getD-at, split-at, length-take-le}
+use lib.ListN.{length, length-append}
 use Rattle.walk.specs.Clause.{Numbered}
 
 same-place : {P : Type 0} (before : List P) (k : P) (after before′ : List P) (k′ : P) (after′ : List P)
@@ -37,17 +36,3 @@ number-low a = omega (arith, a .count)
 
 pub number-high : {P : Type 0} {ks : List P} {k : P} {m : ℕ} → Numbered ks k m → m ≤ length ks
 number-high {k} a = rw (a .split, length-append) (omega (arith, a .count))
-
--- the pair with number m is the one at index m - 1
-pub numbered-index : {P : Type 0} {ks : List P} {k : P} {m : ℕ} (d : P) → Numbered ks k m → getD ks (m - 1) d ≡ k
-numbered-index {k} {m} d a =
-    rw (a .split) (getD-at (a .before) k (a .after) d (m - 1) (omega (arith, a .count)))
-
-pub index-numbered : {P : Type 0} (ks : List P) (m : ℕ) (d : P) → 1 ≤ m → m ≤ length ks → Numbered ks (getD ks (m - 1) d) m
-index-numbered ks m d l h =
-    record {
-      before = take (m - 1) ks;
-      after = drop (suc (m - 1)) ks;
-      split = split-at ks (m - 1) d (omega arith);
-      count = omega (arith, length-take-le (m - 1) ks (omega arith));
-    }

@@ -1,18 +1,13 @@
--- The order of drawings along a list of pairs: irreflexive, transitive, total up to agreement, tested by isEarlier, and the
--- lexicographic order of the entries.
+-- The order of drawings along a list of pairs: irreflexive, transitive, total up to agreement, and the lexicographic
+-- order of the entries.
 use Prim.Native.Nat.{ℕ, _<_, _≤_}
 use native.Mathlib.Omega.{arith}
 use native.Mathlib.Decide.{ℕ-discrete}
 use mathlib.Core.Path.{_≡_, refl, sym, _∙_, ap}
 use mathlib.Core.Logic.{_↔_, _⊎_, inl, inr}
-use mathlib.Core.Bool.{Bool, true, false, false≢true}
 use mathlib.Core.List.{List, [], _∷_, _++_, map}
-use lib.Dec.{eqb}
-use borrow.Author.Tests.{eqb-true, eq-eqb}
-use Rattle.laws.specs.Test.{both, either}
 use Rattle.laws.specs.Each.{Each, each-none, each-cons, each-first, each-rest}
-use Rattle.walk.specs.Earlier.{Earlier, isEarlier, LexLess}
-use Rattle.laws.specs.TestLaws.{either-second}
+use Rattle.walk.specs.Earlier.{Earlier, LexLess}
 
 module _ {P : Type 0} (x y : P → ℕ) where
   -- ---- one pair more
@@ -74,30 +69,6 @@ module _ {P : Type 0} (x y : P → ℕ) where
       at : Dec (x k ≡ y k) → Earlier (k ∷ ks) x y
       at (yes a) = earlier-later a e
       at (no n) = earlier-here (omega arith) (omega arith)
-
-  -- ---- the test
-
-  -- the test tells
-  pub isEarlier-tells : (ks : List P) → (isEarlier ks x y ≡ true) ↔ Earlier ks x y
-  unfolding isEarlier both either
-  isEarlier-tells [] = (λ e. absurd (false≢true e), λ e. absurd (earlier-none e))
-  isEarlier-tells (k ∷ ks) = (
-    to (eqb (x k) 0) (eqb (y k) 1) (eqb (x k) (y k)) refl refl refl (isEarlier-tells ks .0),
-    λ e. from (isEarlier-tells ks .1) (earlier-cases e),
-  )
-    where
-      to : (z o a : Bool) → eqb (x k) 0 ≡ z → eqb (y k) 1 ≡ o → eqb (x k) (y k) ≡ a → (isEarlier ks x y ≡ true → Earlier ks x y)
-          → either (both z o) (both a (isEarlier ks x y)) ≡ true → Earlier (k ∷ ks) x y
-      to true true a p q r f e = earlier-here (eqb-true (x k) 0 p) (eqb-true (y k) 1 q)
-      to true false true p q r f e = earlier-later (eqb-true (x k) (y k) r) (f e)
-      to true false false p q r f e = absurd (false≢true e)
-      to false o true p q r f e = earlier-later (eqb-true (x k) (y k) r) (f e)
-      to false o false p q r f e = absurd (false≢true e)
-
-      from : (Earlier ks x y → isEarlier ks x y ≡ true) → ((x k ≡ 0) × (y k ≡ 1)) ⊎ ((x k ≡ y k) × Earlier ks x y)
-          → either (both (eqb (x k) 0) (eqb (y k) 1)) (both (eqb (x k) (y k)) (isEarlier ks x y)) ≡ true
-      from f (inl a) = rw (eq-eqb (x k) 0 (a .0), eq-eqb (y k) 1 (a .1))
-      from f (inr a) = either-second (both (eqb (x k) 0) (eqb (y k) 1)) (both (eqb (x k) (y k)) (isEarlier ks x y)) (rw (eq-eqb (x k) (y k) (a .0), f (a .1)))
 
 -- ---- an order
 

@@ -1,12 +1,11 @@
 -- The walk along two lists joined, and what a walk depends on.
 use Prim.Native.Nat.{ℕ}
 use mathlib.Core.Path.{_≡_, refl, ap}
-use mathlib.Core.Bool.{Bool, true, false}
+use mathlib.Core.Bool.{Bool}
 use mathlib.Core.List.{List, [], _∷_, _++_}
-use lib.Dec.{eqb}
 use Rattle.laws.specs.Each.{Each, each-first, each-rest}
-use Rattle.walk.specs.Walk.{Turn, wins, goes-on, loses, turn, ending, walk, still-open, and-then}
-use Rattle.walk.specs.Clause.{met, literals}
+use Rattle.walk.specs.Walk.{Turn, wins, goes-on, loses, turn, ending, walk, and-then}
+use Rattle.walk.specs.Clause.{literals}
 
 -- the same entries and the same image at k
 pub record Alike {P : Type 0} (v w : P → ℕ) (img jmg : P → P) (k : P) : Type 0 where
@@ -27,38 +26,6 @@ module _ {P : Type 0} (same : P → P → Bool) where
         at wins e = refl
         at goes-on e = e
         at loses e = refl
-
-    -- where the walk along xs is open, its literals come before those met along ys
-    pub literals-open : (xs ys : List P) → walk same v img xs ≡ still-open → literals same v img (xs ++ ys) ≡ literals same v img xs ++ literals same v img ys
-    unfolding walk ending literals met
-    literals-open [] ys e = refl
-    literals-open (k ∷ xs) ys e = at (turn same v img k) (same (img k) k) (eqb (v k) 1) (λ h. literals-open xs ys h) e
-      where
-        at : (t : Turn) (own edge : Bool)
-            → (walk same v img xs ≡ still-open → literals same v img (xs ++ ys) ≡ literals same v img xs ++ literals same v img ys)
-            → ending t k (walk same v img xs) ≡ still-open
-            → met t own edge k (img k) (literals same v img (xs ++ ys)) ≡ met t own edge k (img k) (literals same v img xs) ++ literals same v img ys
-        at wins own edge f h = cc
-        at goes-on true edge f h = f h
-        at goes-on false true f h = rw (f h)
-        at goes-on false false f h = rw (f h)
-        at loses own edge f h = cc
-
-    -- where the walk along xs is won or lost, nothing after it is met
-    pub literals-settled : (xs ys : List P) → (walk same v img xs ≡ still-open → ⊥) → literals same v img (xs ++ ys) ≡ literals same v img xs
-    unfolding walk ending literals met
-    literals-settled [] ys e = absurd (e refl)
-    literals-settled (k ∷ xs) ys e = at (turn same v img k) (same (img k) k) (eqb (v k) 1) (λ h. literals-settled xs ys h) e
-      where
-        at : (t : Turn) (own edge : Bool)
-            → ((walk same v img xs ≡ still-open → ⊥) → literals same v img (xs ++ ys) ≡ literals same v img xs)
-            → (ending t k (walk same v img xs) ≡ still-open → ⊥)
-            → met t own edge k (img k) (literals same v img (xs ++ ys)) ≡ met t own edge k (img k) (literals same v img xs)
-        at wins own edge f h = refl
-        at goes-on true edge f h = f h
-        at goes-on false true f h = rw (f h)
-        at goes-on false false f h = rw (f h)
-        at loses own edge f h = refl
 
   -- the walk and its literals depend only on the images of the pairs of ks and on the entries at both
   pub walk-alike : (v w : P → ℕ) (img jmg : P → P) (ks : List P) → Each (Alike v w img jmg) ks

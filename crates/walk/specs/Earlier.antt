@@ -2,10 +2,7 @@
 use Prim.Native.Nat.{ℕ, _<_}
 use mathlib.Core.Path.{_≡_}
 use mathlib.Core.Logic.{_⊎_}
-use mathlib.Core.Bool.{Bool, false}
 use mathlib.Core.List.{List, [], _∷_, _++_}
-use lib.Dec.{eqb}
-use Rattle.laws.specs.Test.{both, either}
 use Rattle.laws.specs.Each.{Each}
 
 -- x has 0 and y has 1 at the first pair of ks where they differ
@@ -21,13 +18,6 @@ pub record Earlier {P : Type 0} (ks : List P) (x y : P → ℕ) : Type 0 where
 -- the copy of the drawing x under the arrangement: at each pair the entry of its image
 abbrev pub copy : {P : Type 0} → (P → P) → (P → ℕ) → P → ℕ
 copy img x k = x (img k)
-
--- the test of being earlier
-unfoldable pub isEarlier : {P : Type 0} → List P → (P → ℕ) → (P → ℕ) → Bool
-isEarlier [] x y = false
-isEarlier (k ∷ ks) x y =
-    let rest = isEarlier ks x y in
-    either (both (eqb (x k) 0) (eqb (y k) 1)) (both (eqb (x k) (y k)) rest)
 
 -- the lexicographic order of lists of numbers, a list before those that extend it
 unfoldable pub LexLess : List ℕ → List ℕ → Type 0

@@ -1,40 +1,82 @@
-// Runs the worked graphs of the rules, and each refusal of a library, and writes what came of it.
+// Runs the worked graphs of the rules, and each refusal of a library, and writes what came of it. The cases are a table on
+// standard input, a row for each: the letter of its kind; from column 2 on, in hexadecimal, how many bytes its record has,
+// from column 5 on the first three of them, with zeros after, and from column 12 on a budget; from column 21 on other numbers,
+// each a digit, with an arrangement from column 22 on; from column 26 on its name. A digit is 0 to 9, then a for 10 and so on.
 use graph::Graph;
 use judging::Judged;
+use libc::STDIN_FILENO;
 use libc::STDOUT_FILENO;
 use show::byte;
-use show::number;
+use show::filled;
+use show::from_column;
 use show::text;
-use show::word;
+use text::parts::first_bytes;
+use text::table::byte_at;
+use text::table::digit_at;
+use text::table::hex_at;
+use text::table::row_end;
 
-// ---- graphs, each by its record
+// ---- what a row holds
 
-// The line of the listing for a judged graph, after its name.
-fn show(name: &[u8], order: u32, judged: Judged, literals: &[i32]) {
+fn bytes(row: &[u8]) -> [u8; 130] {
+    let mut whole = [0u8; 130];
+    whole[0] = byte_at(row, 5);
+    whole[1] = byte_at(row, 7);
+    whole[2] = byte_at(row, 9);
+    whole
+}
+
+fn budget(row: &[u8]) -> u32 {
+    (hex_at(row, 12, 8) % 4294967296) as u32
+}
+
+fn vertex(row: &[u8], column: usize) -> u8 {
+    digit_at(row, column) as u8
+}
+
+// The vertices at places 1 to 3.
+fn arrangement(row: &[u8]) -> [u8; 32] {
+    let mut p = [0u8; 32];
+    p[0] = vertex(row, 22);
+    p[1] = vertex(row, 23);
+    p[2] = vertex(row, 24);
+    p
+}
+
+// ---- judging and writing
+
+// The line of the listing for a judged graph.
+fn show(order: u32, judged: Judged, literals: &[i32]) {
     let mut out = io::buffer();
     let used = line::line(&mut out, 1, order, judged, literals);
-    text(name);
-    text(b": ");
+    text(b" ");
     io::write_all(STDOUT_FILENO, &out[..used]);
 }
 
-// What judging the graph of a record within a budget gives.
-fn judge(name: &[u8], bytes: &[u8], budget: u32) {
-    let found = reading::read(bytes);
-    let graph = found.graph;
+fn judge(graph: Graph, budget: u32) {
     let mut literals = [0i32; 496];
     let judged = search::judge(graph, budget, &mut literals);
-    show(name, graph.order, judged, &literals);
+    show(graph.order, judged, &literals);
 }
 
-// What writing the graph of a record of one or two bytes gives.
-fn write(name: &[u8], bytes: &[u8]) {
-    let found = reading::read(bytes);
-    let graph = found.graph;
+// Judging with room for 495 literals.
+fn judge_cramped(graph: Graph, budget: u32) {
+    let mut few = [0i32; 495];
+    let judged = search::judge(graph, budget, &mut few);
+    show(graph.order, judged, &few);
+}
+
+// Judging without a block start.
+fn malformed(mut graph: Graph) {
+    graph.starts = 0;
+    judge(graph, 1000000);
+}
+
+// The record of one or two bytes that writing gives.
+fn write(graph: Graph) {
     let mut out = [0u8; 129];
     let done = writing::write(graph, &mut out);
-    text(name);
-    text(b": record");
+    text(b" record");
     byte(out[0]);
     if 1 < done.written {
         byte(out[1]);
@@ -42,162 +84,116 @@ fn write(name: &[u8], bytes: &[u8]) {
     text(b"\n");
 }
 
-fn small_graphs() {
-    judge(b"n=1", &[0x04], 1000000);
-    write(b"n=1", &[0x04]);
-    judge(b"n=2 u", &[0x09, 0x00], 1000000);
-    write(b"n=2 u", &[0x09, 0x00]);
-    write(b"n=2 1", &[0x08, 0x80]);
-}
-
-fn budgets() {
-    judge(b"100", &[0x0c, 0x40], 1000000);
-    judge(b"100, budget 3", &[0x0c, 0x40], 3);
-    judge(b"100, budget 0", &[0x0c, 0x40], 0);
-}
-
-fn drawn_graphs() {
-    judge(b"001", &[0x0c, 0x04], 1000000);
-    judge(b"011", &[0x0c, 0x14], 1000000);
-    judge(b"111", &[0x0c, 0x54], 1000000);
-    judge(b"010", &[0x0c, 0x10], 1000000);
-    judge(b"110", &[0x0c, 0x50], 1000000);
-}
-
-fn blocks_and_unknowns() {
-    judge(b"100 in {1},{2},{3}", &[0x0f, 0x40], 1000000);
-    judge(b"010 in {1,2},{3}", &[0x0d, 0x10], 1000000);
-    judge(b"uuu", &[0x0c, 0xa8], 1000000);
-    judge(b"01u", &[0x0c, 0x18], 1000000);
-    judge(b"n=4 u1uu00", &[0x10, 0x4d, 0x00], 1000000);
-}
-
 // ---- refusals
 
-fn refusal(name: &[u8], refusal: u32, place: usize) {
-    text(name);
-    word(b": refusal ", refusal);
-    number(b", place ", place as u64);
-    text(b"\n");
+fn refusal(refusal: u32, place: usize) {
+    filled(
+        b" refusal #, place #\n",
+        [refusal as u64, place as u64, 0, 0, 0, 0],
+    );
 }
 
-fn read(name: &[u8], bytes: &[u8]) {
+fn read(bytes: &[u8]) {
     let found = reading::read(bytes);
-    refusal(name, found.refusal, found.place);
+    refusal(found.refusal, found.place);
 }
 
-fn field(name: &[u8], place: usize, width: u32) {
-    let found = fields::field(b"\x0c\x40", place, width);
-    refusal(name, found.refusal, found.place);
+fn field(bytes: &[u8], place: u32, width: u32) {
+    let found = fields::field(bytes, place as usize, width);
+    refusal(found.refusal, found.place);
 }
 
-// The record of a graph of order 32 without edges.
-fn thirty_two() -> [u8; 129] {
-    let mut bytes = [0u8; 129];
-    bytes[0] = 0x80;
-    bytes
-}
-
-fn records() {
-    read(b"no byte", b"");
-    read(b"0C", &[0x0c]);
-    read(b"order 0", &[0x00]);
-    read(b"order 32", &thirty_two());
-    read(b"order 33", &[0x84]);
-    read(b"0C 70", &[0x0c, 0x70]);
-    read(b"0C 41", &[0x0c, 0x41]);
-}
-
-fn fields() {
-    field(b"a field past two bytes", 16, 1);
-    field(b"a field of width 0", 0, 0);
-    field(b"a field of width 7", 0, 7);
-}
-
-// The graph 100.
-fn sample() -> Graph {
-    let found = reading::read(&[0x0c, 0x40]);
-    found.graph
-}
-
-// Judging a graph of order 32 with room for 495 literals, and for 496.
-fn rooms() {
-    let found = reading::read(&thirty_two());
-    let graph = found.graph;
-    let mut few = [0i32; 495];
-    let refused = search::judge(graph, 1000, &mut few);
-    show(b"order 32, 495 literals", graph.order, refused, &few);
-    let mut enough = [0i32; 496];
-    let judged = search::judge(graph, 1000, &mut enough);
-    show(
-        b"order 32, 496 literals, budget 1000",
-        graph.order,
-        judged,
-        &enough,
-    );
-}
-
-// Writing into a buffer that is a byte short.
-fn short_buffer() {
+// Writing into one byte.
+fn write_cramped(graph: Graph) {
     let mut out = [0u8; 1];
-    let done = writing::write(sample(), &mut out);
-    refusal(b"writing 100 into one byte", done.refusal, done.place);
+    let done = writing::write(graph, &mut out);
+    refusal(done.refusal, done.place);
 }
 
-// Judging a graph value without a block start.
-fn malformed() {
-    let mut graph = sample();
-    graph.starts = 0;
-    let mut literals = [0i32; 496];
-    let judged = search::judge(graph, 1000000, &mut literals);
-    show(b"100 without a block", graph.order, judged, &literals);
+fn entry(graph: Graph, i: u32, j: u32) {
+    let found = graph.read(i, j);
+    refusal(found.refusal, found.place);
 }
 
-// The vertices at places 1 to 3.
-fn places(a: u8, b: u8, c: u8) -> [u8; 32] {
-    let mut p = [0u8; 32];
-    p[0] = a;
-    p[1] = b;
-    p[2] = c;
-    p
+fn degree(graph: Graph, v: u32) {
+    let found = graph.count_at(v);
+    refusal(found.refusal, found.place);
 }
 
-fn entries() {
-    let zero = sample().read(0, 1);
-    refusal(b"the entry (0,1) of 100", zero.refusal, zero.place);
-    let past = sample().read(1, 4);
-    refusal(b"the entry (1,4) of 100", past.refusal, past.place);
-    let same = sample().read(2, 2);
-    refusal(b"the entry (2,2) of 100", same.refusal, same.place);
-    let degree = sample().count_at(4);
-    refusal(
-        b"the edges at vertex 4 of 100",
-        degree.refusal,
-        degree.place,
-    );
+fn set(graph: Graph, i: u32, j: u32, value: u32) {
+    let changed = graph.set(i, j, value);
+    refusal(changed.refusal, changed.place);
 }
 
-fn changes() {
-    let changed = sample().set(1, 2, 3);
-    refusal(b"setting (1,2) of 100 to 3", changed.refusal, changed.place);
-    let moved = sample().relabel(places(1, 1, 3));
-    refusal(b"relabelling 100 by 1,1,3", moved.refusal, moved.place);
-    let joined = composing::compose(33, places(1, 2, 3), places(1, 2, 3));
-    refusal(b"composing at order 33", joined.refusal, joined.place);
-    let back = composing::invert(3, places(1, 2, 4));
-    refusal(b"inverting 1,2,4 at order 3", back.refusal, back.place);
+fn relabel(graph: Graph, p: [u8; 32]) {
+    let changed = graph.relabel(p);
+    refusal(changed.refusal, changed.place);
+}
+
+fn compose(order: u32, p: [u8; 32]) {
+    let joined = composing::compose(order, p, p);
+    refusal(joined.refusal, joined.place);
+}
+
+fn invert(order: u32, p: [u8; 32]) {
+    let back = composing::invert(order, p);
+    refusal(back.refusal, back.place);
+}
+
+// ---- the cases
+
+// The cases that have a graph.
+fn case_of(row: &[u8], kind: u8, graph: Graph) {
+    match kind {
+        b'j' => judge(graph, budget(row)),
+        b'k' => judge_cramped(graph, budget(row)),
+        b'm' => malformed(graph),
+        b'w' => write(graph),
+        b'o' => write_cramped(graph),
+        b'e' => entry(graph, digit_at(row, 21), digit_at(row, 22)),
+        b'd' => degree(graph, digit_at(row, 21)),
+        b's' => set(
+            graph,
+            digit_at(row, 21),
+            digit_at(row, 22),
+            digit_at(row, 23),
+        ),
+        _ => relabel(graph, arrangement(row)),
+    }
+}
+
+fn case(row: &[u8]) {
+    if row.len() == 0 {
+        return;
+    }
+    from_column(row, 26);
+    text(b":");
+    let whole = bytes(row);
+    let given = first_bytes(&whole, hex_at(row, 2, 2) as usize);
+    let kind = row[0];
+    match kind {
+        b'r' => read(given),
+        b'f' => field(given, digit_at(row, 21), digit_at(row, 22)),
+        b'c' => compose(digit_at(row, 21), arrangement(row)),
+        b'i' => invert(digit_at(row, 21), arrangement(row)),
+        _ => case_of(row, kind, reading::read(given).graph),
+    }
+}
+
+fn cases(table: &[u8]) {
+    let mut at = 0;
+    while at < table.len() {
+        let end = row_end(table, at);
+        if table.len() <= end {
+            return;
+        }
+        case(&table[at..end]);
+        at = end + 1;
+    }
 }
 
 fn main() {
-    small_graphs();
-    budgets();
-    drawn_graphs();
-    blocks_and_unknowns();
-    records();
-    fields();
-    rooms();
-    short_buffer();
-    malformed();
-    entries();
-    changes();
+    let mut table = io::large_buffer();
+    let given = io::read_full(STDIN_FILENO, &mut table);
+    cases(&table[..given]);
 }

@@ -7,14 +7,14 @@ use Rattle.line.proofs.line.Tie as tie
 enum-known-verdict : tie.Need-enum-known-verdict
 enum-known-verdict c = search needs
 
-slice-aggregate-first-places : tie.Need-slice-aggregate-first-places
-slice-aggregate-first-places c = search needs
+slice-aggregate-first-bytes : tie.Need-slice-aggregate-first-bytes
+slice-aggregate-first-bytes c = search needs
 
-first-places-requires : tie.Need-first-places-requires
-first-places-requires c κs = search needs
+first-bytes-requires : tie.Need-first-bytes-requires
+first-bytes-requires c κs = search needs
 
-first-literals-requires : tie.Need-first-literals-requires
-first-literals-requires c κs = search needs
+first-signed-requires : tie.Need-first-signed-requires
+first-signed-requires c κs = search needs
 
 slice-aggregate-put-line : tie.Need-slice-aggregate-put-line
 slice-aggregate-put-line c = search needs
@@ -59,7 +59,7 @@ returns c =
     let clause = called .before .before .before in
     let places = clause .before in
     let told = places .before .before .before .before in
-    shows-smaller _ _ _ _ _ _ _ _ _ _ _ _ (told .verdict .given .1) (places .first-places .ensures) (clause .first-literals .ensures) (called .put-line .ensures)
+    shows-smaller _ _ _ _ _ _ _ _ _ _ _ _ (told .verdict .given .1) (places .first-bytes .ensures) (clause .first-signed .ensures) (called .put-line .ensures)
 
 same-length-2 : tie.Need-same-length-2
 same-length-2 c = search needs
@@ -87,9 +87,9 @@ line-spec =
     tie.close
     (tie.spec
     enum-known-verdict
-    slice-aggregate-first-places
-    first-places-requires
-    first-literals-requires
+    slice-aggregate-first-bytes
+    first-bytes-requires
+    first-signed-requires
     slice-aggregate-put-line
     put-line-requires
     enum-known-verdict-2

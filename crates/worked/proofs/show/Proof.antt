@@ -12,14 +12,11 @@ slice-aggregate-line c = search needs
 line-requires : tie.Need-line-requires
 line-requires c κs = search needs
 
-text-requires : tie.Need-text-requires
-text-requires c κs = search needs
-
 slice-aggregate-text : tie.Need-slice-aggregate-text
 slice-aggregate-text c = search needs
 
-text-requires-2 : tie.Need-text-requires-2
-text-requires-2 c κs = search needs
+text-requires : tie.Need-text-requires
+text-requires c κs = search needs
 
 array-share-prefix-out : tie.Need-array-share-prefix-out
 array-share-prefix-out c = search needs
@@ -40,9 +37,8 @@ show-spec =
     buffer-requires
     slice-aggregate-line
     line-requires
-    text-requires
     slice-aggregate-text
-    text-requires-2
+    text-requires
     array-share-prefix-out
     slice-aggregate-write-all
     write-all-requires

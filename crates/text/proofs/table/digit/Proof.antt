@@ -1,0 +1,25 @@
+use borrow.Author.Needs.{needs}
+use Rattle.text.proofs.Tables.{digit-low, digit-decimal, digit-letter}
+use Rattle.text.proofs.table.digit.Statement.{statement}
+use Rattle.text.proofs.table.digit.Tie as tie
+
+returns : tie.Need-returns
+returns c = search (digit-low, needs)
+
+cast-result : tie.Need-cast-result
+cast-result c = search needs
+
+returns-2 : tie.Need-returns-2
+returns-2 c = search (digit-decimal, needs)
+
+sub-result : tie.Need-sub-result
+sub-result c = search needs
+
+cast-result-2 : tie.Need-cast-result-2
+cast-result-2 c = search needs
+
+returns-3 : tie.Need-returns-3
+returns-3 c = search (digit-letter, needs)
+
+pub digit-spec : {M : Type 1} → statement M
+digit-spec = tie.close (tie.spec returns cast-result returns-2 sub-result cast-result-2 returns-3)

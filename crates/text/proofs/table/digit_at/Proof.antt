@@ -1,0 +1,21 @@
+use borrow.Author.Needs.{needs}
+use Rattle.text.specs.Table.{digitAt}
+use Rattle.text.proofs.Tables.{digit-past}
+use Rattle.text.proofs.table.digit_at.Statement.{statement}
+use Rattle.text.proofs.table.digit_at.Tie as tie
+
+shared-slice-read-digit : tie.Need-shared-slice-read-digit
+shared-slice-read-digit c = search needs
+
+digit-requires : tie.Need-digit-requires
+digit-requires c κs = search needs
+
+returns : tie.Need-returns
+unfolding digitAt
+returns c = search needs
+
+returns-2 : tie.Need-returns-2
+returns-2 c = search (digit-past, needs)
+
+pub digit-at-spec : {M : Type 1} → statement M
+digit-at-spec = tie.close (tie.spec shared-slice-read-digit digit-requires returns returns-2)

@@ -1,0 +1,49 @@
+use borrow.Author.Needs.{needs}
+use Prim.Native.Nat.{_+_, _-_}
+use mathlib.Core.Path.{_≡_}
+use lib.ListN.{length, drop}
+use Rattle.text.specs.Table.{rowLength}
+use Rattle.text.proofs.Tables.{row-stops, row-turns, row-done}
+use Rattle.text.proofs.table.row_end.Statement.{statement}
+use Rattle.text.proofs.table.row_end.Tie as tie
+
+abbrev Inv-loop : tie.InvT-loop
+Inv-loop table from i₀ i = i + rowLength (drop i table) ≡ from + rowLength (drop from table)
+
+abbrev μ-loop : tie.MeasureT-loop
+μ-loop table from i₀ i = length table - i
+
+loop-holds : tie.Need-loop-holds Inv-loop μ-loop
+loop-holds c = search needs
+
+shared-slice-read-if1 : tie.Need-shared-slice-read-if1 Inv-loop μ-loop
+shared-slice-read-if1 c = search needs
+
+returns : tie.Need-returns Inv-loop μ-loop
+returns c = search (row-stops, needs)
+
+add-i : tie.Need-add-i Inv-loop μ-loop
+add-i c = search needs
+
+loop-less : tie.Need-loop-less Inv-loop μ-loop
+loop-less c = search needs
+
+loop-again : tie.Need-loop-again Inv-loop μ-loop
+loop-again c = search (row-turns, needs)
+
+returns-2 : tie.Need-returns-2 Inv-loop μ-loop
+returns-2 c = search (row-done, needs)
+
+pub row-end-spec : {M : Type 1} → statement M
+row-end-spec =
+    tie.close
+    (tie.spec
+    Inv-loop
+    μ-loop
+    loop-holds
+    shared-slice-read-if1
+    returns
+    add-i
+    loop-less
+    loop-again
+    returns-2)
