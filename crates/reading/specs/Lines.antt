@@ -1,22 +1,17 @@
 -- The rows of a graph as reading finds them, above the diagonal: the entries' first bits are unknowns, their second bits edges.
 use Prim.Native.Nat.{ℕ, _+_, _-_, _*_, _^_}
 use mathlib.Core.Path.{_≡_}
-use mathlib.Core.Logic.{_≢_}
 use mathlib.Core.List.{List}
-use lib.Bits.{bitAnd}
 use lib.Dec.{eqb}
 use Rattle.laws.specs.Test.{pick}
 use Rattle.laws.specs.Bit.{bit}
 use Rattle.laws.specs.UpTo.{wordUpTo}
 use Rattle.laws.specs.Num.{num}
-use Rattle.laws.specs.First.{firstUpTo}
 use Rattle.pairs.specs.Pairs.{number}
 use Rattle.rows.specs.Rows.{placed}
 use Rattle.rows.specs.Stage.{above}
 use Rattle.record.specs.Layout.{entryPlace}
-use Rattle.record.specs.Reading.{isRefused, refusedIn}
 use Rattle.reading.specs.declared.lines.Line.{Line}
-use Rattle.reading.specs.declared.lines.Lines.{Lines}
 
 -- the first bit, d = 0, or the second, d = 1, of the entry of the pair (i, j), i < j
 unfoldable pub markIn : (ℕ → ℕ) → ℕ → ℕ → ℕ → ℕ → ℕ
@@ -30,11 +25,6 @@ lineIn f n d i = wordUpTo (above (markIn f n d) i) n
 unfoldable pub linesIn : (ℕ → ℕ) → ℕ → ℕ → List ℕ
 linesIn f n d = placed (lineIn f n d) n
 
--- r has all lines
-pub record Whole (f : ℕ → ℕ) (n : ℕ) (r : Lines) : Type 0 where
-  pub unknowns : r .unknowns ≡ linesIn f n 0
-  pub edges : r .edges ≡ linesIn f n 1
-
 -- ---- a row from the number of its entries
 
 -- every second bit of x: the even ones, d = 0, or the odd ones, d = 1
@@ -45,15 +35,6 @@ every d x k = bit x (2 * k + d)
 pub record LineFrom (x m i : ℕ) (r : Line) : Type 0 where
   pub unknowns : r .unknowns ≡ num (every 1 x) 0 m * 2 ^ i
   pub edges : r .edges ≡ num (every 0 x) 0 m * 2 ^ i
-
--- no entry of the rows before row i is refused
-pub record NoneBefore (f : ℕ → ℕ) (n i : ℕ) : Type 0 where
-  pub none : firstUpTo (isRefused f n) (number n i i) ≡ 0
-
--- r is 0 where row i has no refused entry, else the number of the first one
-pub record RowRefused (f : ℕ → ℕ) (n i r : ℕ) : Type 0 where
-  pub clear : r ≡ 0 → bitAnd (lineIn f n 0 i) (lineIn f n 1 i) ≡ 0
-  pub first : r ≢ 0 → NoneBefore f n i → r ≡ refusedIn f n
 
 -- ---- block starts
 

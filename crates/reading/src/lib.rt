@@ -5,7 +5,7 @@ mod parts;
 mod refused;
 
 use graph::Graph;
-use lines::lines_of;
+use lines::fill_lines;
 use parts::order_of;
 use parts::pad_of;
 use parts::starts_of;
@@ -13,7 +13,7 @@ use record::Extent;
 use record::Record;
 use record::size;
 use refused::first_refused;
-use rows::turned::both_halves;
+use rows::turned::mirror;
 ghost use mathlib.Core.Path.{_≡_};
 ghost use Prim.Native.Nat.{_≤_};
 ghost use lib.ListN.{length};
@@ -69,11 +69,10 @@ fn graph_of(bytes: &[u8]) -> Graph
     ensures { λ r. ⌜ r ≡ graphIn (bitOf (now (bytes .entry))) ⌝ }
 {
     let order = order_of(bytes);
-    let lines = lines_of(bytes, order);
-    let above = lines.edges;
-    let edges = both_halves(&above);
-    let others = lines.unknowns;
-    let unknowns = both_halves(&others);
+    let mut unknowns = [0u32; 32];
+    let mut edges = [0u32; 32];
+    fill_lines(bytes, order, &mut unknowns, &mut edges);
+    mirror(&mut edges, &mut unknowns);
     let starts = starts_of(bytes, order);
     Graph {
         order,

@@ -1,10 +1,11 @@
 // The entries of a row above the diagonal.
 ghost use mathlib.Core.Path.{_≡_};
 ghost use Prim.Native.Nat.{_+_, _-_, _*_, _≤_};
+ghost use lib.ListN.{replicate};
 ghost use Rattle.laws.specs.Num.{num};
 ghost use Rattle.fields.specs.Bits.{bitOf};
 ghost use Rattle.record.specs.Layout.{cell};
-ghost use Rattle.reading.specs.Lines.{LineFrom, Whole};
+ghost use Rattle.reading.specs.Lines.{linesIn, LineFrom};
 use crate::bits::bits_at;
 use record::layout::line_place;
 
@@ -12,12 +13,6 @@ use record::layout::line_place;
 pub struct Line {
     pub unknowns: u32,
     pub edges: u32,
-}
-
-// The lines of all rows.
-pub struct Lines {
-    pub unknowns: [u32; 32],
-    pub edges: [u32; 32],
 }
 
 // The entries of row i after the diagonal as one number, two bits each, the first the most significant.
@@ -50,13 +45,16 @@ pub fn line_from(entries: u64, order: u32, i: u32) -> Line
     }
 }
 
-// The lines of all rows.
-pub fn lines_of(bytes: &[u8], order: u32) -> Lines
-    requires { ⌜ (1 ≤ order) × (order ≤ 32) ⌝ }
-    ensures { λ r. ⌜ Whole (bitOf (now (bytes .entry))) order r ⌝ }
+// Fills empty rows with the lines.
+pub fn fill_lines<'a, 'b, 'c>(
+    bytes: &'a [u8],
+    order: u32,
+    unknowns: &'b mut [u32; 32],
+    edges: &'c mut [u32; 32],
+)
+    requires { ⌜ (1 ≤ order) × (order ≤ 32) × (now unknowns ≡ replicate 32 0) × (now edges ≡ replicate 32 0) ⌝ }
+    ensures { λ r. ⌜ (now (unknowns .exit) ≡ linesIn (bitOf (now (bytes .entry))) order 0) × (now (edges .exit) ≡ linesIn (bitOf (now (bytes .entry))) order 1) ⌝ }
 {
-    let mut unknowns = [0u32; 32];
-    let mut edges = [0u32; 32];
     let mut i = 0;
     while i < order {
         let line = line_from(entries_of(bytes, order, i + 1), order, i + 1);
@@ -65,5 +63,4 @@ pub fn lines_of(bytes: &[u8], order: u32) -> Lines
         edges[k] = line.edges;
         i += 1;
     }
-    Lines { unknowns, edges }
 }

@@ -1,29 +1,45 @@
 // The first refused entry.
 ghost use mathlib.Core.Path.{_≡_};
-ghost use Prim.Native.Nat.{_≤_};
+ghost use Prim.Native.Nat.{_+_, _*_, _≤_, min};
+ghost use Rattle.laws.specs.Num.{num};
 ghost use Rattle.fields.specs.Bits.{bitOf};
+ghost use Rattle.record.specs.Layout.{entryPlace};
 ghost use Rattle.record.specs.Reading.{refusedIn};
-ghost use Rattle.reading.specs.Lines.{RowRefused};
-use crate::lines::entries_of;
-use crate::lines::line_from;
-use pairs::number_of;
-use rows::words::lowest;
+ghost use Rattle.reading.specs.Refused.{NoneUpTo};
+use crate::bits::bits_at;
+use pairs::pair_count;
 
-// The number of the first pair of row i whose entry is refused, or 0.
-fn refused_in(bytes: &[u8], order: u32, i: u32) -> u32
-    requires { ⌜ (1 ≤ i) × (i ≤ order) × (order ≤ 32) ⌝ }
-    ensures { λ r. ⌜ RowRefused (bitOf (now (bytes .entry))) order i r ⌝ }
+// As many as are left, up to 31.
+fn few(left: u32) -> u32
+    ensures { λ r. ⌜ r ≡ min left 31 ⌝ }
 {
-    let entries = entries_of(bytes, order, i);
-    if (entries & (entries >> 1) & 0x5555_5555_5555_5555) == 0 {
-        return 0;
+    if left < 31 { left } else { 31 }
+}
+
+// The entries of so many pairs after the first m as one number, two bits each.
+fn entries_after(bytes: &[u8], order: u32, m: u32, count: u32) -> u64
+    requires { ⌜ (1 ≤ order) × (order ≤ 32) × (m ≤ 2048) × (count ≤ 31) ⌝ }
+    ensures { λ r. ⌜ r ≡ num (bitOf (now (bytes .entry))) (entryPlace order (m + 1)) (2 * count) ⌝ }
+{
+    bits_at(bytes, (5 + order + 2 * m) as usize, 2 * count)
+}
+
+// How many of the first entries are surely not refused, many at a time: all of them where none is.
+fn clear_entries(bytes: &[u8], order: u32) -> u32
+    requires { ⌜ (1 ≤ order) × (order ≤ 32) ⌝ }
+    ensures { λ r. ⌜ NoneUpTo (bitOf (now (bytes .entry))) order r ⌝ }
+{
+    let count = pair_count(order);
+    let mut clear = 0;
+    while clear < count {
+        let more = few(count - clear);
+        let entries = entries_after(bytes, order, clear, more);
+        if (entries & (entries >> 1) & 0x5555_5555_5555_5555) != 0 {
+            return clear;
+        }
+        clear += more;
     }
-    let line = line_from(entries, order, i);
-    let refused = line.unknowns & line.edges;
-    if refused == 0 {
-        return 0;
-    }
-    number_of(order, i, lowest(refused) + 1)
+    clear
 }
 
 // The number of the first pair whose entry is refused, or 0.
@@ -31,13 +47,13 @@ pub fn first_refused(bytes: &[u8], order: u32) -> u32
     requires { ⌜ (1 ≤ order) × (order ≤ 32) ⌝ }
     ensures { λ r. ⌜ r ≡ refusedIn (bitOf (now (bytes .entry))) order ⌝ }
 {
-    let mut i = 0;
-    while i < order {
-        let refused = refused_in(bytes, order, i + 1);
-        if refused != 0 {
-            return refused;
+    let count = pair_count(order);
+    let mut m = clear_entries(bytes, order);
+    while m < count {
+        if entries_after(bytes, order, m, 1) == 3 {
+            return m + 1;
         }
-        i += 1;
+        m += 1;
     }
     0
 }

@@ -1,48 +1,45 @@
 -- What the code's test of the rows comes to.
-use Prim.Native.Nat.{ℕ, _+_, _-_, _/_, _%_, _^_, _<_}
-use mathlib.Core.Path.{_≡_, sym, ap, _∙_}
-use mathlib.Core.Bool.{Bool, true, false}
+use Prim.Native.Nat.{ℕ, _+_, _-_, _^_, _≤_}
+use mathlib.Core.Path.{_≡_, refl, ap, ap₂, _∙_}
 use mathlib.Core.List.{List}
+use native.Mathlib.Numerals.{add-one}
 use native.Mathlib.Omega.{arith}
-use lib.ListN.{getD, set}
-use lib.Dec.{leb, ltb, eqb}
-use lib.Bits.{bitAnd, bitOr}
-use borrow.Author.Tests.{eq-eqb, ne-eqb}
+use lib.Dec.{leb, eqb}
+use lib.Bits.{bitAnd, bitOr, bitXor}
+use borrow.Author.Tests.{eq-eqb, eqb-true}
 use Rattle.laws.specs.Test.{both, pick}
-use Rattle.rows.specs.Rows.{row, placed}
-use Rattle.rows.proofs.Filled.{placed-turns}
-use Rattle.rows.specs.Standing.{mixed, mixedRow, stands, rowStands}
+use Rattle.laws.specs.TestLaws.{both-first, both-second, both-hold, same-test}
+use Rattle.laws.specs.UpTo.{allUpTo}
+use Rattle.rows.specs.Rows.{row}
+use Rattle.rows.specs.Standing.{fault, rowFault, rowStands}
+use Rattle.rows.proofs.Standing.{or-none}
 
-module _ (e u column k limit m : ℕ) (is-m : m ≡ mixed k u e) where
-  pub not-agreed : (column ≡ m → ⊥) → false ≡ stands e u column k limit
-  unfolding stands both
-  not-agreed h = rw (ne-eqb column (mixed k u e) (λ q. h (q ∙ sym is-m)))
+pub fault-is : (e u f v diagonal inside w : ℕ) → w ≡ bitOr e u - bitAnd (bitOr e u) inside
+    → bitOr (bitOr (bitOr (bitOr (bitXor e f) (bitXor u v)) (bitAnd e u)) (bitAnd (bitOr e u) diagonal)) w ≡ fault e u f v diagonal inside
+unfolding fault
+fault-is e u f v diagonal inside w h = rw h
 
-  module _ (a : column ≡ m) where
-    agreed : eqb column (mixed k u e) ≡ true
-    agreed = eq-eqb column (mixed k u e) (a ∙ is-m)
+pub row-fault-is : (order : ℕ) (e u f v : List ℕ) (i p m r : ℕ) → p ≡ 2 ^ (i - 1) → m ≡ 2 ^ pick (leb i order) order 0 - 1
+    → r ≡ fault (row e i) (row u i) (row f i) (row v i) p m → r ≡ rowFault order e u f v i
+unfolding rowFault
+row-fault-is order e u f v i p m r is-p is-m q = q ∙ ap₂ (fault (row e i) (row u i) (row f i) (row v i)) is-p is-m
 
-    pub not-apart : (bitAnd e u ≡ 0 → ⊥) → false ≡ stands e u column k limit
-    unfolding stands both
-    not-apart h = rw (agreed, ne-eqb (bitAnd e u) 0 h)
+-- no fault so far, and none at one row more
+none-more : (a b : ℕ) → eqb (bitOr a b) 0 ≡ both (eqb a 0) (eqb b 0)
+none-more a b =
+    same-test (eqb (bitOr a b) 0) (both (eqb a 0) (eqb b 0))
+    (λ t. let p = or-none a b (eqb-true (bitOr a b) 0 t) in both-hold _ _ (eq-eqb a 0 (p .0)) (eq-eqb b 0 (p .1)))
+    (λ t. rw (eqb-true a 0 (both-first _ _ t), eqb-true b 0 (both-second _ _ t)))
 
-    module _ (c : bitAnd e u ≡ 0) where
-      pub on-diagonal : (bitOr e u / 2 ^ k % 2 ≡ 0 → ⊥) → false ≡ stands e u column k limit
-      unfolding stands both
-      on-diagonal h = rw (agreed, eq-eqb (bitAnd e u) 0 c, ne-eqb (bitOr e u / 2 ^ k % 2) 0 h)
+module _ (order : ℕ) (e u f v : List ℕ) where
+  pub faults-start : eqb 0 0 ≡ allUpTo (rowStands order e u f v) 0
+  unfolding allUpTo
+  faults-start = refl
 
-      pub in-limit : (w : ℕ) → bitOr e u / 2 ^ k % 2 ≡ 0 → w ≡ bitOr e u → ltb w limit ≡ stands e u column k limit
-      unfolding stands both
-      in-limit w d q = rw (agreed, eq-eqb (bitAnd e u) 0 c, eq-eqb (bitOr e u / 2 ^ k % 2) 0 d) (ap (λ (x : ℕ). ltb x limit) q)
+  pub faults-turn : (i w r : ℕ) → eqb w 0 ≡ allUpTo (rowStands order e u f v) i → r ≡ rowFault order e u f v (i + 1)
+      → eqb (bitOr w r) 0 ≡ allUpTo (rowStands order e u f v) (i + 1)
+  unfolding allUpTo rowStands
+  faults-turn i w r h q = none-more w r ∙ rw (add-one i, h) (rw (add-one i) at (ap (λ (x : ℕ). both (allUpTo (rowStands order e u f v) i) (eqb x 0)) q))
 
-pub row-stands-is : (order : ℕ) (e u f : List ℕ) (i limit : ℕ) (r : Bool) → limit ≡ 2 ^ pick (leb i order) order 0
-    → r ≡ stands (row e i) (row u i) (row f i) (i - 1) limit → r ≡ rowStands order e u f i
-unfolding rowStands
-row-stands-is order e u f i limit r h q = q ∙ ap (λ (x : ℕ). stands (row e i) (row u i) (row f i) (i - 1) x) h
-
--- the next of the mixed rows
-pub mixed-turns : (e u out : List ℕ) (i v : ℕ) → out ≡ placed (mixedRow e u) i → v ≡ mixed i (getD e i 0) (getD u i 0) → i < 32 → set out i v ≡ placed (mixedRow e u) (i + 1)
-unfolding mixedRow
-mixed-turns e u out i v is-out is-v l =
-    let k : i + 1 - 1 ≡ i = omega arith in
-    placed-turns (mixedRow e u) i v 32 out is-out (is-v ∙ rw k) l (omega arith)
+  pub faults-done : (i w : ℕ) → eqb w 0 ≡ allUpTo (rowStands order e u f v) i → i ≤ 32 → 32 ≤ i → eqb w 0 ≡ allUpTo (rowStands order e u f v) 32
+  faults-done i w h a b = let q : i ≡ 32 = omega arith in h ∙ ap (allUpTo (rowStands order e u f v)) q

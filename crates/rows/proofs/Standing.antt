@@ -1,16 +1,14 @@
--- The rows stand beside the columns of the mixed rows exactly where every row fits.
+-- The rows stand beside their columns exactly where every row fits.
 use Prim.Native.Nat.{ℕ, suc, _+_, _-_, _*_, _/_, _%_, _^_, _≤_, _<_}
 use native.Mathlib.Omega.{arith}
-use native.Mathlib.Nat.{mod-lt, mod-le, lt-of-lt-of-le, lt-of-le-of-lt}
+use native.Mathlib.Nat.{mod-lt, mod-eq-of-lt, lt-of-lt-of-le, lt-of-le-of-lt}
 use mathlib.Core.Path.{_≡_, refl, sym, ap, _∙_}
 use mathlib.Core.Bool.{Bool, true, false}
 use mathlib.Core.List.{List}
 use lib.ListN.{getD}
 use lib.Dec.{leb, lit<}
-use lib.Pow.{pow-pos, pow-mono, split, shr-shr}
-use lib.Bits.{bitAnd, bitOr, and-le-r, or-lt, or-add-and}
-use mir.Syntax.{w32}
-use mir.Val.{Fits}
+use lib.Pow.{pow-pos, pow-mono}
+use lib.Bits.{bitAnd, bitOr, bitXor, and-le-l, and-le-r, and-mask, or-lt, or-add-and, xor-add-and, xor-self}
 use borrow.Author.Tests.{ltb-true, leb-true, eqb-true, lt-ltb, le-leb, eq-eqb}
 use Rattle.laws.specs.Compared.{by-below, by-order, by-same}
 use Rattle.laws.specs.Test.{pick}
@@ -18,12 +16,12 @@ use Rattle.laws.specs.TestLaws.{both-first, both-second, both-hold, same-test}
 use Rattle.laws.specs.UpTo.{allUpTo}
 use Rattle.laws.specs.UpToLaws.{all-at, all-hold}
 use Rattle.laws.specs.Bit.{bit}
-use Rattle.laws.specs.BitLaws.{bit-of-and, bit-of-or, bit-of-zero, bit-of-low, bit-of-high, bit-of-rest, bits-past, below-of-bits, same-word, same-number}
+use Rattle.laws.specs.BitLaws.{bit-of-and, bit-of-or, bit-of-power, bit-of-power-other, bit-of-zero, bits-past, same-word, same-number}
 use Rattle.rows.specs.Rows.{row, entryIn, placed}
 use Rattle.rows.specs.Fits.{pairFits, rowFits}
 use Rattle.rows.specs.Stage.{lower, upper, staged, transposed}
-use Rattle.rows.specs.Standing.{mixed, mixedRow, stands, rowStands}
-use Rattle.rows.proofs.Placed.{placed-at}
+use Rattle.rows.specs.Standing.{fault, rowFault, rowStands}
+use Rattle.rows.specs.declared.turned.Matrices.{Matrices}
 use Rattle.rows.proofs.StageLaws.{Halves}
 use Rattle.rows.proofs.Transposing.{at-even, at-odd, halves-1, transposed-bit}
 
@@ -55,41 +53,47 @@ transposed-below rows i l = stage-below 1 1431655765 2863311530 halves-1 _ i (li
 pub turned : (rows : List ℕ) (i j : ℕ) → 1 ≤ i → i ≤ 32 → 1 ≤ j → j ≤ 32 → bit (row (transposed rows) i) (j - 1) ≡ bit (row rows j) (i - 1)
 turned rows i j li hi lj hj = transposed-bit rows (i - 1) (j - 1) (omega arith) (omega arith)
 
--- ---- mixed words
+-- ---- what a fault of 0 says
 
-module _ (k low high : ℕ) where
-  mixed-parts : mixed k low high ≡ high / 2 ^ k * 2 ^ k + low % 2 ^ k
-  unfolding mixed
-  mixed-parts = omega (arith, split high k)
+pub or-none : (a b : ℕ) → bitOr a b ≡ 0 → (a ≡ 0) × (b ≡ 0)
+or-none a b h = (omega (arith, h, or-add-and a b, and-le-r a b), omega (arith, h, or-add-and a b, and-le-l a b))
 
-  -- below k they have the bits of the one
-  pub mixed-low : (j : ℕ) → j < k → bit (mixed k low high) j ≡ bit low j
-  mixed-low j l =
-      ap (λ (x : ℕ). bit x j) mixed-parts ∙ bit-of-low j k (high / 2 ^ k) (low % 2 ^ k) l ∙ bit-of-rest low k j l
+xor-none : (a b : ℕ) → bitXor a b ≡ 0 → a ≡ b
+xor-none a b h = omega (arith, h, xor-add-and a b, and-le-l a b, and-le-r a b)
 
-  -- and from k on those of the other
-  pub mixed-high : (j : ℕ) → k ≤ j → bit (mixed k low high) j ≡ bit high j
-  mixed-high j l =
-      let e : j ≡ k + (j - k) = omega arith in
-      ap (λ (x : ℕ). bit x j) mixed-parts ∙ ap (bit (high / 2 ^ k * 2 ^ k + low % 2 ^ k)) e
-      ∙ bit-of-high (j - k) k (high / 2 ^ k) (low % 2 ^ k) (mod-lt low (pow-pos k))
-      ∙ ap (λ (x : ℕ). x % 2) (shr-shr high k (j - k)) ∙ ap (bit high) (sym e)
+-- the five kinds of fault
+module _ (e u f v diagonal inside : ℕ) where
+  pub no-fault : fault e u f v diagonal inside ≡ 0
+      → (e ≡ f) × (u ≡ v) × (bitAnd e u ≡ 0) × (bitAnd (bitOr e u) diagonal ≡ 0) × (bitOr e u - bitAnd (bitOr e u) inside ≡ 0)
+  unfolding fault
+  no-fault h =
+      let a = or-none _ (bitOr e u - bitAnd (bitOr e u) inside) h in
+      let b = or-none _ (bitAnd (bitOr e u) diagonal) (a .0) in
+      let c = or-none _ (bitAnd e u) (b .0) in
+      let d = or-none (bitXor e f) (bitXor u v) (c .0) in
+      (xor-none e f (d .0), xor-none u v (d .1), c .1, b .1, a .1)
 
-  -- so they have 32 bits where the other has
-  pub mixed-below : k < 32 → high < 2 ^ 32 → mixed k low high < 2 ^ 32
-  mixed-below l h = below-of-bits (mixed k low high) 32 (λ j m. mixed-high j (omega arith) ∙ bits-past high 32 j h m)
+  pub fault-none : e ≡ f → u ≡ v → bitAnd e u ≡ 0 → bitAnd (bitOr e u) diagonal ≡ 0 → bitOr e u - bitAnd (bitOr e u) inside ≡ 0 → fault e u f v diagonal inside ≡ 0
+  unfolding fault
+  fault-none p q r s t = rw (s, t, r, ← p, ← q, xor-self e, xor-self u)
 
--- what the code takes away is there
-pub rest-within : (high p : ℕ) → high % p ≤ high
-rest-within high p = mod-le high p
+-- a word has nothing outside the lowest n bits exactly where it is below 2 ^ n
+pub inside-below : (w n : ℕ) → w - bitAnd w (2 ^ n - 1) ≡ 0 → w < 2 ^ n
+inside-below w n h = omega (arith, h, and-mask w n, mod-lt w (pow-pos n))
 
--- what the code sums up
-pub mixed-is : (k low high p : ℕ) → p ≡ 2 ^ k → high - high % p + low % p ≡ mixed k low high
-unfolding mixed
-mixed-is k low high p e = rw e
+pub below-inside : (w n : ℕ) → w < 2 ^ n → w - bitAnd w (2 ^ n - 1) ≡ 0
+below-inside w n h = omega (arith, and-mask w n, mod-eq-of-lt h)
 
-pub mixed-fits : (k low high p : ℕ) → p ≡ 2 ^ k → k < 32 → Fits w32 high → Fits w32 (high - high % p + low % p)
-mixed-fits k low high p e l h = record { fits = rw (mixed-is k low high p e) (mixed-below k low high l (h .fits)) }
+-- and nothing on the diagonal where its bit is 0
+pub bit-none : (w k : ℕ) → bitAnd w (2 ^ k) ≡ 0 → bit w k ≡ 0
+bit-none w k h =
+    let z : bit (bitAnd w (2 ^ k)) k ≡ 0 = ap (λ (x : ℕ). bit x k) h ∙ bit-of-zero k in
+    omega (arith, z, bit-of-and w (2 ^ k) k, bit-of-power k)
+
+pub none-bit : (w k : ℕ) → bit w k ≡ 0 → bitAnd w (2 ^ k) ≡ 0
+none-bit w k h =
+    same-number (bitAnd w (2 ^ k)) 0
+    (λ j. bit-of-and w (2 ^ k) j ∙ by-same j k (λ q. rw q (omega (arith, h, bit-of-zero k))) (λ d. omega (arith, bit-of-power-other k j d, bit-of-zero j)))
 
 -- ---- what the parts of the test say
 
@@ -105,65 +109,28 @@ module _ (order : ℕ) (e u : List ℕ) (h : order ≤ 32) where
       by-test true = h
       by-test false = omega arith
 
-  abbrev columns : List ℕ
-  columns = transposed (placed (mixedRow e u) 32)
-
   abbrev standing : ℕ → Bool
-  standing = rowStands order e u columns
-
-  -- a bit of a column below the diagonal is one of the unknowns above it
-  column-below : (i j : ℕ) → 1 ≤ j → j < i → i ≤ 32 → bit (row columns i) (j - 1) ≡ bit (row u j) (i - 1)
-  unfolding mixedRow
-  column-below i j lj l hi =
-      turned (placed (mixedRow e u) 32) i j (omega arith) hi lj (omega arith)
-      ∙ ap (λ (w : ℕ). bit w (i - 1)) (placed-at (mixedRow e u) 32 j lj (omega arith))
-      ∙ mixed-high (j - 1) (row e j) (row u j) (i - 1) (omega arith)
-
-  -- and one above it is one of the edges below it
-  column-above : (i j : ℕ) → 1 ≤ i → i < j → j ≤ 32 → bit (row columns i) (j - 1) ≡ bit (row e j) (i - 1)
-  unfolding mixedRow
-  column-above i j li l hj =
-      turned (placed (mixedRow e u) 32) i j li (omega arith) (omega arith) hj
-      ∙ ap (λ (w : ℕ). bit w (i - 1)) (placed-at (mixedRow e u) 32 j (omega arith) hj)
-      ∙ mixed-low (j - 1) (row e j) (row u j) (i - 1) (omega arith)
-
-  -- on it there is an unknown
-  column-on : (i : ℕ) → 1 ≤ i → i ≤ 32 → bit (row columns i) (i - 1) ≡ bit (row u i) (i - 1)
-  unfolding mixedRow
-  column-on i li hi =
-      turned (placed (mixedRow e u) 32) i i li hi li hi
-      ∙ ap (λ (w : ℕ). bit w (i - 1)) (placed-at (mixedRow e u) 32 i li hi)
-      ∙ mixed-high (i - 1) (row e i) (row u i) (i - 1) (omega arith)
+  standing = rowStands order e u (transposed e) (transposed u)
 
   -- ---- rows that stand fit
 
   module _ (t : allUpTo standing 32 ≡ true) where
-    parts : (i : ℕ) → 1 ≤ i → i ≤ 32 → (row columns i ≡ mixed (i - 1) (row u i) (row e i)) × (bitAnd (row e i) (row u i) ≡ 0)
-        × (bit (bitOr (row e i) (row u i)) (i - 1) ≡ 0) × (bitOr (row e i) (row u i) < 2 ^ width i)
-    unfolding rowStands stands
+    parts : (i : ℕ) → 1 ≤ i → i ≤ 32 → (row e i ≡ row (transposed e) i) × (row u i ≡ row (transposed u) i) × (bitAnd (row e i) (row u i) ≡ 0)
+        × (bitAnd (bitOr (row e i) (row u i)) (2 ^ (i - 1)) ≡ 0) × (bitOr (row e i) (row u i) - bitAnd (bitOr (row e i) (row u i)) (2 ^ width i - 1) ≡ 0)
+    unfolding rowStands rowFault
     parts i l m =
-        let a = all-at standing 32 t i l m in
-        let c = both-second _ _ a in
-        let d = both-second _ _ c in (
-          eqb-true (row columns i) (mixed (i - 1) (row u i) (row e i)) (both-first _ _ a),
-          eqb-true (bitAnd (row e i) (row u i)) 0 (both-first _ _ c),
-          eqb-true (bit (bitOr (row e i) (row u i)) (i - 1)) 0 (both-first _ _ d),
-          ltb-true (bitOr (row e i) (row u i)) (2 ^ width i) (both-second _ _ d),
-        )
+        no-fault (row e i) (row u i) (row (transposed e) i) (row (transposed u) i) (2 ^ (i - 1)) (2 ^ width i - 1)
+        (eqb-true (rowFault order e u (transposed e) (transposed u) i) 0 (all-at standing 32 t i l m))
 
-    mirrored : (i j : ℕ) → i ≤ 32 → 1 ≤ j → j < i → entryIn e u i j ≡ entryIn e u j i
-    mirrored i j hi lj l =
-        let x : bit (row e i) (j - 1) ≡ bit (row e j) (i - 1) =
-        sym (column-above j i lj l hi) ∙ ap (λ (w : ℕ). bit w (i - 1)) (parts j lj (omega arith) .0)
-        ∙ mixed-high (j - 1) (row u j) (row e j) (i - 1) (omega arith) in
-        let y : bit (row u i) (j - 1) ≡ bit (row u j) (i - 1) =
-        sym (mixed-low (i - 1) (row u i) (row e i) (j - 1) (omega arith)) ∙ ap (λ (w : ℕ). bit w (j - 1)) (sym (parts i (omega arith) hi .0))
-        ∙ column-below i j lj l hi in
+    mirrored : (i j : ℕ) → 1 ≤ i → i ≤ 32 → 1 ≤ j → j ≤ 32 → entryIn e u i j ≡ entryIn e u j i
+    mirrored i j li hi lj hj =
+        let x : bit (row e i) (j - 1) ≡ bit (row e j) (i - 1) = ap (λ (w : ℕ). bit w (j - 1)) (parts i li hi .0) ∙ turned e i j li hi lj hj in
+        let y : bit (row u i) (j - 1) ≡ bit (row u j) (i - 1) = ap (λ (w : ℕ). bit w (j - 1)) (parts i li hi .1) ∙ turned u i j li hi lj hj in
         rw (x, y)
 
     small : (i j : ℕ) → 1 ≤ i → i ≤ 32 → entryIn e u i j ≤ 2
     small i j li hi =
-        let z : bit (bitAnd (row e i) (row u i)) (j - 1) ≡ 0 = ap (λ (w : ℕ). bit w (j - 1)) (parts i li hi .1) ∙ bit-of-zero (j - 1) in
+        let z : bit (bitAnd (row e i) (row u i)) (j - 1) ≡ 0 = ap (λ (w : ℕ). bit w (j - 1)) (parts i li hi .2) ∙ bit-of-zero (j - 1) in
         omega (arith, z, bit-of-and (row e i) (row u i) (j - 1))
 
     pub standing-fits : (i : ℕ) → 1 ≤ i → i ≤ 32 → rowFits order e u i ≡ true
@@ -171,11 +138,12 @@ module _ (order : ℕ) (e u : List ℕ) (h : order ≤ 32) where
     standing-fits i li hi =
         let p = parts i li hi in
         let sum = or-add-and (row e i) (row u i) in
-        both-hold _ _ (lt-ltb (row e i) (2 ^ width i) (omega (arith, p .3, sum, and-le-r (row e i) (row u i))))
-        (both-hold _ _ (lt-ltb (row u i) (2 ^ width i) (omega (arith, p .3, sum, p .1)))
-        (both-hold _ _ (eq-eqb (entryIn e u i i) 0 (omega (arith, p .2, bit-of-or (row e i) (row u i) (i - 1))))
+        let below = inside-below (bitOr (row e i) (row u i)) (width i) (p .4) in
+        both-hold _ _ (lt-ltb (row e i) (2 ^ width i) (omega (arith, below, sum, p .2)))
+        (both-hold _ _ (lt-ltb (row u i) (2 ^ width i) (omega (arith, below, sum, p .2)))
+        (both-hold _ _ (eq-eqb (entryIn e u i i) 0 (omega (arith, bit-none (bitOr (row e i) (row u i)) (i - 1) (p .3), bit-of-or (row e i) (row u i) (i - 1))))
         (all-hold (pairFits e u i) (i - 1)
-        (λ j lj hj. both-hold _ _ (eq-eqb (entryIn e u i j) (entryIn e u j i) (mirrored i j hi lj (omega arith))) (le-leb (entryIn e u i j) 2 (small i j li hi))))))
+        (λ j lj hj. both-hold _ _ (eq-eqb (entryIn e u i j) (entryIn e u j i) (mirrored i j li hi lj (omega arith))) (le-leb (entryIn e u i j) 2 (small i j li hi))))))
 
   -- ---- rows that fit stand
 
@@ -206,26 +174,26 @@ module _ (order : ℕ) (e u : List ℕ) (h : order ≤ 32) where
     wide : (w i : ℕ) → w < 2 ^ width i → w < 2 ^ 32
     wide w i l = lt-of-lt-of-le l (pow-mono (width-small i))
 
+    -- the rows of one kind are their columns
+    agree : (rows : List ℕ) → ((i : ℕ) → 1 ≤ i → i ≤ 32 → row rows i < 2 ^ 32)
+        → ((i j : ℕ) → 1 ≤ i → i ≤ 32 → 1 ≤ j → j ≤ 32 → bit (row rows i) (j - 1) ≡ bit (row rows j) (i - 1)) → (i : ℕ) → 1 ≤ i → i ≤ 32 → row rows i ≡ row (transposed rows) i
+    agree rows below same i li hi =
+        same-word 32 (row rows i) (row (transposed rows) i) (below i li hi) (transposed-below rows (i - 1) (omega arith))
+        (λ j lj hj. same i j li hi lj hj ∙ sym (turned rows i j li hi lj hj))
+
     pub fits-standing : (i : ℕ) → 1 ≤ i → i ≤ 32 → standing i ≡ true
-    unfolding rowStands stands
+    unfolding rowStands rowFault
     fits-standing i li hi =
         let f = fit i li hi in
-        both-hold _ _ (eq-eqb (row columns i) (mixed (i - 1) (row u i) (row e i)) agrees)
-        (both-hold _ _ (eq-eqb (bitAnd (row e i) (row u i)) 0 apart)
-        (both-hold _ _ (eq-eqb (bit (bitOr (row e i) (row u i)) (i - 1)) 0 (omega (arith, f .2, bit-of-or (row e i) (row u i) (i - 1))))
-        (lt-ltb (bitOr (row e i) (row u i)) (2 ^ width i) (or-lt (width i) (row e i) (row u i) (f .0) (f .1)))))
+        let some = bitOr (row e i) (row u i) in
+        eq-eqb (rowFault order e u (transposed e) (transposed u) i) 0
+        (fault-none (row e i) (row u i) (row (transposed e) i) (row (transposed u) i) (2 ^ (i - 1)) (2 ^ width i - 1)
+        (agree e (λ k l m. wide (row e k) k (fit k l m .0)) (λ a b la ha lb hb. omega (arith, pair a b la ha lb hb .0)) i li hi)
+        (agree u (λ k l m. wide (row u k) k (fit k l m .1)) (λ a b la ha lb hb. omega (arith, pair a b la ha lb hb .0)) i li hi)
+        apart
+        (none-bit some (i - 1) (omega (arith, f .2, bit-of-or (row e i) (row u i) (i - 1))))
+        (below-inside some (width i) (or-lt (width i) (row e i) (row u i) (f .0) (f .1))))
       where
-        agrees : row columns i ≡ mixed (i - 1) (row u i) (row e i)
-        agrees =
-            same-word 32 (row columns i) (mixed (i - 1) (row u i) (row e i)) (transposed-below (placed (mixedRow e u) 32) (i - 1) (omega arith))
-            (mixed-below (i - 1) (row u i) (row e i) (omega arith) (wide (row e i) i (fit i li hi .0)))
-            (λ j lj hj. by-order j i
-            (λ l. column-below i j lj l hi
-            ∙ omega (arith, pair i j li hi lj hj .0, mixed-low (i - 1) (row u i) (row e i) (j - 1) (omega arith)))
-            (λ q. rw q (column-on i li hi ∙ omega (arith, fit i li hi .2, mixed-high (i - 1) (row u i) (row e i) (i - 1) (omega arith))))
-            (λ l. column-above i j li l hj
-            ∙ omega (arith, pair i j li hi lj hj .0, mixed-high (i - 1) (row u i) (row e i) (j - 1) (omega arith))))
-
         apart : bitAnd (row e i) (row u i) ≡ 0
         apart =
             same-number (bitAnd (row e i) (row u i)) 0
@@ -244,6 +212,6 @@ module _ (order : ℕ) (e u : List ℕ) (h : order ≤ 32) where
       (λ t. all-hold (rowFits order e u) 32 (standing-fits t)) (λ t. all-hold standing 32 (fits-standing t))
 
 -- what the code answers
-pub rows-stand-is : (order : ℕ) (e u m f : List ℕ) (r : Bool) → order ≤ 32 → m ≡ placed (mixedRow e u) 32 → f ≡ transposed m → r ≡ allUpTo (rowStands order e u f) 32
-    → r ≡ allUpTo (rowFits order e u) 32
-rows-stand-is order e u m f r h p q s = s ∙ rw (q, p) (stand-is-fit order e u h)
+pub rows-stand-is : (order : ℕ) (e u : List ℕ) (columns : Matrices) (r : Bool) → order ≤ 32 → columns .edges ≡ transposed e → columns .unknowns ≡ transposed u
+    → r ≡ allUpTo (rowStands order e u (columns .edges) (columns .unknowns)) 32 → r ≡ allUpTo (rowFits order e u) 32
+rows-stand-is order e u columns r h p q s = s ∙ rw (p, q) (stand-is-fit order e u h)

@@ -1,27 +1,22 @@
--- The test of a graph's rows beside the columns of one matrix that holds half of each.
-use Prim.Native.Nat.{ℕ, _+_, _-_, _%_, _^_}
+-- The test of a graph's rows beside their columns.
+use Prim.Native.Nat.{ℕ, _-_, _^_}
 use mathlib.Core.Bool.{Bool}
 use mathlib.Core.List.{List}
-use lib.Dec.{leb, ltb, eqb}
-use lib.Bits.{bitAnd, bitOr}
-use Rattle.laws.specs.Test.{both, pick}
-use Rattle.laws.specs.Bit.{bit}
+use lib.Dec.{leb, eqb}
+use lib.Bits.{bitAnd, bitOr, bitXor}
+use Rattle.laws.specs.Test.{pick}
 use Rattle.rows.specs.Rows.{row}
 
--- the low k bits of one word with the other bits of another
-unfoldable pub mixed : ℕ → ℕ → ℕ → ℕ
-mixed k low high = high - high % 2 ^ k + low % 2 ^ k
+-- the bits in which the words e and u are not f and v, that both have, that stand on the diagonal, or that lie outside
+unfoldable pub fault : ℕ → ℕ → ℕ → ℕ → ℕ → ℕ → ℕ
+fault e u f v diagonal inside =
+    bitOr (bitOr (bitOr (bitOr (bitXor e f) (bitXor u v)) (bitAnd e u)) (bitAnd (bitOr e u) diagonal)) (bitOr e u - bitAnd (bitOr e u) inside)
 
--- row i of the edges below the diagonal and the unknowns from it on
-unfoldable pub mixedRow : List ℕ → List ℕ → ℕ → ℕ
-mixedRow edges unknowns i = mixed (i - 1) (row edges i) (row unknowns i)
+-- the faults of row i, beside the columns f and v
+unfoldable pub rowFault : ℕ → List ℕ → List ℕ → List ℕ → List ℕ → ℕ → ℕ
+rowFault order edges unknowns f v i =
+    fault (row edges i) (row unknowns i) (row f i) (row v i) (2 ^ (i - 1)) (2 ^ pick (leb i order) order 0 - 1)
 
--- the words e and u agree with the column of the mixed rows, are apart, without bit k, and below the limit
-unfoldable pub stands : ℕ → ℕ → ℕ → ℕ → ℕ → Bool
-stands e u column k limit =
-    both (eqb column (mixed k u e)) (both (eqb (bitAnd e u) 0) (both (eqb (bit (bitOr e u) k) 0) (ltb (bitOr e u) limit)))
-
--- the rows of vertex i stand
-unfoldable pub rowStands : ℕ → List ℕ → List ℕ → List ℕ → ℕ → Bool
-rowStands order edges unknowns columns i =
-    stands (row edges i) (row unknowns i) (row columns i) (i - 1) (2 ^ pick (leb i order) order 0)
+-- row i has none
+unfoldable pub rowStands : ℕ → List ℕ → List ℕ → List ℕ → List ℕ → ℕ → Bool
+rowStands order edges unknowns f v i = eqb (rowFault order edges unknowns f v i) 0

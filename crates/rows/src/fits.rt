@@ -1,105 +1,89 @@
 // Whether rows and block starts are those of a graph.
 ghost use mathlib.Core.Path.{_≡_};
-ghost use Prim.Native.Nat.{_≤_, _<_, _^_};
+ghost use Prim.Native.Nat.{_-_, _≤_, _^_};
 ghost use lib.Dec.{leb};
 ghost use Rattle.laws.specs.UpTo.{allUpTo};
 ghost use Rattle.laws.specs.Test.{pick};
-ghost use Rattle.rows.specs.Rows.{placed};
 ghost use Rattle.rows.specs.Fits.{rowFits, startsFit};
-ghost use Rattle.rows.specs.Standing.{mixedRow, stands, rowStands};
+ghost use Rattle.rows.specs.Standing.{fault, rowFault, rowStands};
 use crate::turned::transposed_of;
 use crate::words::limit_of;
-use crate::words::mixed_of;
+use crate::words::power;
 use crate::words::wide;
+use crate::words::without;
 
-// What row i must be below: 2 to the order, and 1 past the order.
-fn row_limit(order: u32, i: u32) -> u64
+// What row i is a part of: the vertices up to the order, and none past it.
+fn row_limit(order: u32, i: u32) -> u32
     requires { ⌜ order ≤ 32 ⌝ }
-    ensures { λ r. ⌜ r ≡ 2 ^ pick (leb i order) order 0 ⌝ }
+    ensures { λ r. ⌜ r ≡ 2 ^ pick (leb i order) order 0 - 1 ⌝ }
 {
     if i <= order {
-        return limit_of(order);
+        return (limit_of(order) - 1) as u32;
     }
-    1
+    0
 }
 
-// Rows with the edges below the diagonal and the unknowns from it on.
-fn mixed_rows<'a>(edges: &'a [u32; 32], unknowns: &'a [u32; 32]) -> [u32; 32]
-    ensures { λ r. ⌜ r ≡ placed (mixedRow (now (edges .entry)) (now (unknowns .entry))) 32 ⌝ }
+// The bits in which the row e of edges or the row u of unknowns is not its column, that both have, that stand on the
+// diagonal, or that lie outside.
+fn fault_of(e: u32, u: u32, f: u32, v: u32, diagonal: u32, inside: u32) -> u32
+    ensures { λ r. ⌜ r ≡ fault e u f v diagonal inside ⌝ }
 {
-    let mut out = [0u32; 32];
-    let mut i = 0u32;
-    while i < 32 {
-        let k = i as usize;
-        out[k] = mixed_of(i, edges[k], unknowns[k]);
-        i += 1;
-    }
-    out
+    let some = e | u;
+    (e ^ f) | (u ^ v) | (e & u) | (some & diagonal) | without(some, inside)
 }
 
-// Do the row e of edges and the row u of unknowns agree with the column of the mixed rows, are they apart, without bit k,
-// and below the limit?
-fn words_stand(e: u32, u: u32, column: u32, k: u32, limit: u64) -> bool
-    requires { ⌜ k < 32 ⌝ }
-    ensures { λ r. ⌜ r ≡ stands e u column k limit ⌝ }
-{
-    if column != mixed_of(k, u, e) {
-        return false;
-    }
-    if (e & u) != 0 {
-        return false;
-    }
-    if ((e | u) >> k) % 2 != 0 {
-        return false;
-    }
-    wide(e | u) < limit
-}
-
-// Do the rows of vertex i stand, beside the columns of the mixed rows?
-fn row_stands<'a>(
+// The faults of row i, beside the columns.
+fn row_fault<'a>(
     order: u32,
     edges: &'a [u32; 32],
     unknowns: &'a [u32; 32],
     columns: &'a [u32; 32],
+    others: &'a [u32; 32],
     i: u32,
-) -> bool
+) -> u32
     requires { ⌜ (order ≤ 32) × (1 ≤ i) × (i ≤ 32) ⌝ }
-    ensures { λ r. ⌜ r ≡ rowStands order (now (edges .entry)) (now (unknowns .entry)) (now (columns .entry)) i ⌝ }
+    ensures { λ r. ⌜ r ≡ rowFault order (now (edges .entry)) (now (unknowns .entry)) (now (columns .entry)) (now (others .entry)) i ⌝ }
 {
-    let at = (i - 1) as usize;
-    let limit = row_limit(order, i);
-    words_stand(edges[at], unknowns[at], columns[at], i - 1, limit)
+    let k = (i - 1) as usize;
+    let diagonal = power(i - 1);
+    let inside = row_limit(order, i);
+    fault_of(
+        edges[k],
+        unknowns[k],
+        columns[k],
+        others[k],
+        diagonal,
+        inside,
+    )
 }
 
-// Do all rows stand?
+// Is no row at fault?
 fn rows_stand<'a>(
     order: u32,
     edges: &'a [u32; 32],
     unknowns: &'a [u32; 32],
     columns: &'a [u32; 32],
+    others: &'a [u32; 32],
 ) -> bool
     requires { ⌜ order ≤ 32 ⌝ }
-    ensures { λ r. ⌜ r ≡ allUpTo (rowStands order (now (edges .entry)) (now (unknowns .entry)) (now (columns .entry))) 32 ⌝ }
+    ensures { λ r. ⌜ r ≡ allUpTo (rowStands order (now (edges .entry)) (now (unknowns .entry)) (now (columns .entry)) (now (others .entry))) 32 ⌝ }
 {
+    let mut faults = 0u32;
     let mut i = 0;
     while i < 32 {
-        if row_stands(order, edges, unknowns, columns, i + 1) {
-            i += 1;
-        } else {
-            return false;
-        }
+        faults = faults | row_fault(order, edges, unknowns, columns, others, i + 1);
+        i += 1;
     }
-    true
+    faults == 0
 }
 
-// Does every row fit? One turn serves both kinds of rows.
+// Does every row fit?
 pub fn rows_fit<'a>(order: u32, edges: &'a [u32; 32], unknowns: &'a [u32; 32]) -> bool
     requires { ⌜ order ≤ 32 ⌝ }
     ensures { λ r. ⌜ r ≡ allUpTo (rowFits order (now (edges .entry)) (now (unknowns .entry))) 32 ⌝ }
 {
-    let mixed = mixed_rows(edges, unknowns);
-    let columns = transposed_of(&mixed);
-    rows_stand(order, edges, unknowns, &columns)
+    let columns = transposed_of(edges, unknowns);
+    rows_stand(order, edges, unknowns, &columns.edges, &columns.unknowns)
 }
 
 // Does vertex 1 start a block, and lies no start past the order?

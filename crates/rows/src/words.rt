@@ -4,7 +4,6 @@ ghost use Prim.Native.Nat.{_-_, _*_, _≤_, _<_, _^_};
 ghost use lib.Bits.{bitAnd};
 ghost use lib.Count.{trailingZeros};
 ghost use Rattle.laws.specs.Bit.{withBit};
-ghost use Rattle.rows.specs.Standing.{mixed};
 
 // A word as a wider one.
 pub fn wide(x: u32) -> u64
@@ -27,15 +26,6 @@ pub fn power(k: u32) -> u32
     ensures { λ r. ⌜ (r ≡ 2 ^ k) × (1 ≤ r) ⌝ }
 {
     1u32 << k
-}
-
-// The low k bits of one word with the other bits of another.
-pub fn mixed_of(k: u32, low: u32, high: u32) -> u32
-    requires { ⌜ k < 32 ⌝ }
-    ensures { λ r. ⌜ r ≡ mixed k low high ⌝ }
-{
-    let p = power(k);
-    high - high % p + low % p
 }
 
 // The place of the lowest bit of a word.

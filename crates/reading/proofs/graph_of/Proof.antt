@@ -1,33 +1,27 @@
+use Rattle.reading.proofs.GraphLaws.{graph-lines}
 use borrow.Author.Needs.{needs}
-use Rattle.reading.proofs.LineLaws.{graph-lines}
 use Rattle.reading.proofs.graph_of.Statement.{statement}
 use Rattle.reading.proofs.graph_of.Tie as tie
 
 order-of-requires : tie.Need-order-of-requires
 order-of-requires c κs = search needs
 
-lines-of-requires : tie.Need-lines-of-requires
-lines-of-requires c κs = search needs
+fill-lines-requires : tie.Need-fill-lines-requires
+fill-lines-requires c κs = search needs
 
-both-halves-requires : tie.Need-both-halves-requires
-both-halves-requires c κs = search needs
-
-both-halves-requires-2 : tie.Need-both-halves-requires-2
-both-halves-requires-2 c κs = search needs
+mirror-requires : tie.Need-mirror-requires
+mirror-requires c κs = search needs
 
 starts-of-requires : tie.Need-starts-of-requires
 starts-of-requires c κs = search needs
 
 returns : tie.Need-returns
-returns c = search (graph-lines, needs)
+returns c =
+    let filled = c .before .before .before .before in
+    graph-lines _ _ _ _ _ _ _ (search needs) (filled .before .before .before .order-of .ensures .0) (c .starts-of .ensures)
+    (filled .fill-lines .ensures .0) (filled .fill-lines .ensures .1) (c .before .mirror .ensures .0) (c .before .mirror .ensures .1)
 
 pub graph-of-spec : {M : Type 1} → statement M
 graph-of-spec =
     tie.close
-    (tie.spec
-    order-of-requires
-    lines-of-requires
-    both-halves-requires
-    both-halves-requires-2
-    starts-of-requires
-    returns)
+    (tie.spec order-of-requires fill-lines-requires mirror-requires starts-of-requires returns)

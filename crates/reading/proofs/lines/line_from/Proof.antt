@@ -4,7 +4,7 @@ use mathlib.Core.Path.{_≡_}
 use borrow.Author.Needs.{needs}
 use Rattle.laws.specs.Num.{num}
 use Rattle.reading.specs.Lines.{every}
-use Rattle.reading.proofs.LineLaws.{every-starts, left-starts, every-more, odd-more, left-on, every-fits, every-more-fits, odd-more-fits, moved-fits, line-moved}
+use Rattle.reading.proofs.EveryLaws.{every-starts, left-starts, even-more, odd-more, left-on, every-fits, more-fits, moved-fits, line-moved}
 use Rattle.reading.proofs.lines.line_from.Statement.{statement}
 use Rattle.reading.proofs.lines.line_from.Tie as tie
 
@@ -24,13 +24,13 @@ mul-edges : tie.Need-mul-edges Inv-loop μ-loop
 mul-edges c = search (every-fits, needs)
 
 add-edges : tie.Need-add-edges Inv-loop μ-loop
-add-edges c = search (every-more-fits, needs)
+add-edges c = search (more-fits, needs)
 
 mul-unknowns : tie.Need-mul-unknowns Inv-loop μ-loop
 mul-unknowns c = search (every-fits, needs)
 
 add-unknowns : tie.Need-add-unknowns Inv-loop μ-loop
-add-unknowns c = search (odd-more-fits, needs)
+add-unknowns c = search (more-fits, needs)
 
 add-t : tie.Need-add-t Inv-loop μ-loop
 add-t c = search needs
@@ -39,7 +39,7 @@ loop-less : tie.Need-loop-less Inv-loop μ-loop
 loop-less c = search needs
 
 loop-again : tie.Need-loop-again Inv-loop μ-loop
-loop-again c = search (every-more, odd-more, left-on, needs)
+loop-again c = search (even-more, odd-more, left-on, needs)
 
 shl-t14 : tie.Need-shl-t14 Inv-loop μ-loop
 shl-t14 c = search needs

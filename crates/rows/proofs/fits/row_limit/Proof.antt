@@ -1,10 +1,16 @@
+use Rattle.rows.proofs.CodeFits.{limit-inside, limit-past, limit-fits}
 use borrow.Author.Needs.{needs}
-use Rattle.rows.proofs.CodeFits.{limit-inside, limit-past}
 use Rattle.rows.proofs.fits.row_limit.Statement.{statement}
 use Rattle.rows.proofs.fits.row_limit.Tie as tie
 
 limit-of-requires : tie.Need-limit-of-requires
 limit-of-requires c κs = search needs
+
+sub-result : tie.Need-sub-result
+sub-result c = search needs
+
+cast-result : tie.Need-cast-result
+cast-result c = search (limit-fits, needs)
 
 returns : tie.Need-returns
 returns c = search (limit-inside, needs)
@@ -13,4 +19,4 @@ returns-2 : tie.Need-returns-2
 returns-2 c = search (limit-past, needs)
 
 pub row-limit-spec : {M : Type 1} → statement M
-row-limit-spec = tie.close (tie.spec limit-of-requires returns returns-2)
+row-limit-spec = tie.close (tie.spec limit-of-requires sub-result cast-result returns returns-2)

@@ -1,10 +1,7 @@
-use borrow.Author.Needs.{needs}
 use Rattle.rows.proofs.Standing.{rows-stand-is}
+use borrow.Author.Needs.{needs}
 use Rattle.rows.proofs.fits.rows_fit.Statement.{statement}
 use Rattle.rows.proofs.fits.rows_fit.Tie as tie
-
-mixed-rows-requires : tie.Need-mixed-rows-requires
-mixed-rows-requires c κs = search needs
 
 transposed-of-requires : tie.Need-transposed-of-requires
 transposed-of-requires c κs = search needs
@@ -16,5 +13,4 @@ returns : tie.Need-returns
 returns c = search (rows-stand-is, needs)
 
 pub rows-fit-spec : {M : Type 1} → statement M
-rows-fit-spec =
-    tie.close (tie.spec mixed-rows-requires transposed-of-requires rows-stand-requires returns)
+rows-fit-spec = tie.close (tie.spec transposed-of-requires rows-stand-requires returns)

@@ -1,14 +1,13 @@
 -- After i turns the first i lines are there, and zeros.
 use Prim.Native.Nat.{_-_, _≤_}
 use mathlib.Core.Path.{_≡_}
-use borrow.Author.Needs.{needs}
 use Rattle.rows.specs.Rows.{placed}
-use Rattle.rows.proofs.Filled.{placed-starts}
 use Rattle.fields.specs.Bits.{bitOf}
 use Rattle.reading.specs.Lines.{lineIn}
-use Rattle.reading.proofs.LineLaws.{unknowns-turn, edges-turn, lines-done}
-use Rattle.reading.proofs.lines.lines_of.Statement.{statement}
-use Rattle.reading.proofs.lines.lines_of.Tie as tie
+use Rattle.reading.proofs.LineLaws.{lines-start, lines-room, unknowns-turn, edges-turn, lines-done}
+use borrow.Author.Needs.{needs}
+use Rattle.reading.proofs.lines.fill_lines.Statement.{statement}
+use Rattle.reading.proofs.lines.fill_lines.Tie as tie
 
 abbrev Inv-loop : tie.InvT-loop
 Inv-loop bytes order unknowns₀ edges₀ i₀ unknowns edges i = (i ≤ order) × (unknowns ≡ placed (lineIn (bitOf bytes) order 0) i) × (edges ≡ placed (lineIn (bitOf bytes) order 1) i)
@@ -17,7 +16,7 @@ abbrev μ-loop : tie.MeasureT-loop
 μ-loop bytes order unknowns₀ edges₀ i₀ unknowns edges i = order - i
 
 loop-holds : tie.Need-loop-holds Inv-loop μ-loop
-loop-holds c = search (placed-starts, needs)
+loop-holds c = search (lines-start, needs)
 
 add-entries-of : tie.Need-add-entries-of Inv-loop μ-loop
 add-entries-of c = search needs
@@ -37,14 +36,14 @@ cast-k c = search needs
 mul-unknowns : tie.Need-mul-unknowns Inv-loop μ-loop
 mul-unknowns c = search needs
 
-array-write-unknowns : tie.Need-array-write-unknowns Inv-loop μ-loop
-array-write-unknowns c = search needs
+element-write-unknowns : tie.Need-element-write-unknowns Inv-loop μ-loop
+element-write-unknowns c = search (lines-room, needs)
 
 mul-edges : tie.Need-mul-edges Inv-loop μ-loop
 mul-edges c = search needs
 
-array-write-edges : tie.Need-array-write-edges Inv-loop μ-loop
-array-write-edges c = search needs
+element-write-edges : tie.Need-element-write-edges Inv-loop μ-loop
+element-write-edges c = search (lines-room, needs)
 
 add-i : tie.Need-add-i Inv-loop μ-loop
 add-i c = search needs
@@ -58,8 +57,8 @@ loop-again c = search (unknowns-turn, edges-turn, needs)
 returns : tie.Need-returns Inv-loop μ-loop
 returns c = search (lines-done, needs)
 
-pub lines-of-spec : {M : Type 1} → statement M
-lines-of-spec =
+pub fill-lines-spec : {M : Type 1} → statement M
+fill-lines-spec =
     tie.close
     (tie.spec
     Inv-loop
@@ -71,9 +70,9 @@ lines-of-spec =
     line-from-requires
     cast-k
     mul-unknowns
-    array-write-unknowns
+    element-write-unknowns
     mul-edges
-    array-write-edges
+    element-write-edges
     add-i
     loop-less
     loop-again

@@ -1,22 +1,19 @@
 -- After i turns the first i rows are there, and zeros.
-use Prim.Native.Nat.{_≤_, _-_}
+use Prim.Native.Nat.{_-_, _≤_}
 use mathlib.Core.Path.{_≡_}
-use borrow.Author.Needs.{needs}
 use Rattle.rows.specs.Rows.{placed}
 use Rattle.rows.specs.Stage.{inBothHalves}
 use Rattle.rows.proofs.Filled.{placed-starts, placed-done}
 use Rattle.rows.proofs.CodeStages.{halves-turn}
-use Rattle.rows.proofs.turned.both_halves.Statement.{statement}
-use Rattle.rows.proofs.turned.both_halves.Tie as tie
+use borrow.Author.Needs.{needs}
+use Rattle.rows.proofs.turned.joined.Statement.{statement}
+use Rattle.rows.proofs.turned.joined.Tie as tie
 
 abbrev Inv-loop : tie.InvT-loop
 Inv-loop rows columns out₀ i₀ out i = (i ≤ 32) × (out ≡ placed (inBothHalves rows) i)
 
 abbrev μ-loop : tie.MeasureT-loop
 μ-loop rows columns out₀ i₀ out i = 32 - i
-
-transposed-of-requires : tie.Need-transposed-of-requires Inv-loop μ-loop
-transposed-of-requires c κs = search needs
 
 loop-holds : tie.Need-loop-holds Inv-loop μ-loop
 loop-holds c = search (placed-starts, needs)
@@ -30,8 +27,8 @@ element-copy-out-out c = search needs
 mul-out-2 : tie.Need-mul-out-2 Inv-loop μ-loop
 mul-out-2 c = search needs
 
-array-read-out : tie.Need-array-read-out Inv-loop μ-loop
-array-read-out c = search needs
+element-copy-out-out-2 : tie.Need-element-copy-out-out-2 Inv-loop μ-loop
+element-copy-out-out-2 c = search needs
 
 mul-out-3 : tie.Need-mul-out-3 Inv-loop μ-loop
 mul-out-3 c = search needs
@@ -51,18 +48,17 @@ loop-again c = search (halves-turn, needs)
 returns : tie.Need-returns Inv-loop μ-loop
 returns c = search (placed-done, needs)
 
-pub both-halves-spec : {M : Type 1} → statement M
-both-halves-spec =
+pub joined-spec : {M : Type 1} → statement M
+joined-spec =
     tie.close
     (tie.spec
     Inv-loop
     μ-loop
-    transposed-of-requires
     loop-holds
     mul-out
     element-copy-out-out
     mul-out-2
-    array-read-out
+    element-copy-out-out-2
     mul-out-3
     array-write-out
     add-i
