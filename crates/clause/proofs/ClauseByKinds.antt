@@ -20,13 +20,14 @@ use Rattle.walk.proofs.Reached.{literals-in-words}
 use Rattle.walk.proofs.Clause.{among-listed}
 use Rattle.graph.specs.declared.Graph.{Graph}
 use Rattle.graph.specs.WellFormed.{wellFormed}
-use Rattle.arrangements.specs.Arrangement.{at, Reordering, isReordering, isPermitted, inverse}
+use Rattle.arrangements.specs.Arrangement.{at, Reordering, isReordering, isPermitted}
+use Rattle.composing.specs.Composed.{inverse}
 use Rattle.pairs.specs.Pairs.{Pair, pair, pairs, number}
 use Rattle.graph.specs.Counts.{entryAt}
 use Rattle.pairs.proofs.PairLaws.{Between, numberOf, pairs-given, pairs-has, number-one, number-next-row}
 use Rattle.graph.proofs.Formed.{formed}
 use Rattle.arrangements.proofs.Permits.{permitted, reordering-tested}
-use Rattle.arrangements.proofs.Composing.{inverse-before, inverse-reordering}
+use Rattle.composing.proofs.Composing.{inverse-before, inverse-reordering}
 use Rattle.judging.specs.Judging.{samePair, pairOfTwo, image, walkAll, literalsOf, clauseOf}
 use Rattle.graph.specs.Graph.{graphOf}
 use Rattle.clause.specs.Clauses.{reached, kindAt, writtenFor, writtenAlong, Wrote}

@@ -14,10 +14,11 @@ use Rattle.laws.specs.Bit.{bit}
 use Rattle.laws.specs.BitLaws.{bits-past, below-of-bits, bit-of-and, bit-of-or, bit-of-power}
 use Rattle.laws.specs.Masks.{bit-of-without}
 use Rattle.rows.specs.Rows.{row, entryIn}
-use Rattle.arrangements.specs.Arrangement.{at, Reordering, isReordering, inverse}
+use Rattle.arrangements.specs.Arrangement.{at, Reordering, isReordering}
+use Rattle.composing.specs.Composed.{inverse}
 use Rattle.pairs.specs.Pairs.{Pair, pair}
 use Rattle.arrangements.proofs.Permits.{reordering-tested}
-use Rattle.arrangements.proofs.Composing.{inverse-before, inverse-reordering}
+use Rattle.composing.proofs.Composing.{inverse-before, inverse-reordering}
 use Rattle.judging.specs.Judging.{samePair, pairOfTwo, image}
 use Rattle.turns.specs.Turns.{allMarks, marksOf, Within}
 use Rattle.clause.specs.Clauses.{reached, kindAt, FirstIn, Before, Firsts, Sources, Ahead}

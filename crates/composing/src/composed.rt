@@ -1,9 +1,11 @@
-// Composing and inverting.
+// Composing and inverting arrangements that are known to be reorderings.
+// For the crates of this project; a caller has checked what a function asks of it.
 ghost use mathlib.Core.Path.{_≡_};
 ghost use mathlib.Core.Bool.{true};
 ghost use Prim.Native.Nat.{_≤_};
-ghost use Rattle.arrangements.specs.Arrangement.{isReordering, through, composed, inverse};
-use crate::places::vertex_of;
+ghost use Rattle.arrangements.specs.Arrangement.{isReordering};
+ghost use Rattle.composing.specs.Composed.{through, composed, inverse};
+use arrangements::places::vertex_of;
 
 // The vertex that p has at the place that q has at i.
 fn through_at<'a>(n: u32, p: &'a [u8; 32], q: &'a [u8; 32], i: u32) -> u8

@@ -2,11 +2,11 @@ use borrow.Author.Needs.{needs}
 use Prim.Native.Nat.{_-_, _≤_}
 use mathlib.Core.Path.{_≡_}
 use Rattle.rows.specs.Rows.{placed}
-use Rattle.arrangements.specs.Arrangement.{through}
+use Rattle.composing.specs.Composed.{through}
 use Rattle.rows.proofs.Filled.{placed-starts, placed-turns}
-use Rattle.arrangements.proofs.CodePlaces.{composed-done}
-use Rattle.arrangements.proofs.composed.composed_of.Statement.{statement}
-use Rattle.arrangements.proofs.composed.composed_of.Tie as tie
+use Rattle.composing.proofs.CodeComposed.{composed-done}
+use Rattle.composing.proofs.composed.composed_of.Statement.{statement}
+use Rattle.composing.proofs.composed.composed_of.Tie as tie
 
 abbrev Inv-loop : tie.InvT-loop
 Inv-loop n p q out₀ i₀ out i = (i ≤ n) × (out ≡ placed (through p q) i)

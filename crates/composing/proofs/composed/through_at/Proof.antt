@@ -1,7 +1,7 @@
 use borrow.Author.Needs.{needs}
-use Rattle.arrangements.proofs.CodePlaces.{through-is}
-use Rattle.arrangements.proofs.composed.through_at.Statement.{statement}
-use Rattle.arrangements.proofs.composed.through_at.Tie as tie
+use Rattle.composing.proofs.CodeComposed.{through-is}
+use Rattle.composing.proofs.composed.through_at.Statement.{statement}
+use Rattle.composing.proofs.composed.through_at.Tie as tie
 
 vertex-of-requires : tie.Need-vertex-of-requires
 vertex-of-requires c κs = search needs

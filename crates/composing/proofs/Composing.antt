@@ -10,7 +10,8 @@ use Rattle.laws.specs.Compared.{by-order, by-below, by-same}
 use Rattle.laws.specs.TestLaws.{pick-true, pick-false}
 use Rattle.laws.specs.Pigeonhole.{each-taken}
 use Rattle.rows.specs.Rows.{placed, blockOf}
-use Rattle.arrangements.specs.Arrangement.{at, Reordering, Permitted, composed, placeOf, inverse}
+use Rattle.arrangements.specs.Arrangement.{at, Reordering, Permitted}
+use Rattle.composing.specs.Composed.{composed, placeOf, inverse}
 use Rattle.rows.proofs.Placed.{placed-length, placed-at, placed-past}
 
 -- numbers placed at 1..n make a reordering where they are of 1..n and no two are equal

@@ -2,10 +2,10 @@ use borrow.Author.Needs.{needs}
 use Prim.Native.Nat.{_-_, _≤_}
 use mathlib.Core.Path.{_≡_}
 use Rattle.rows.specs.Rows.{placed}
-use Rattle.arrangements.specs.Arrangement.{placeOf}
-use Rattle.arrangements.proofs.CodePlaces.{inverse-starts, inverse-turns, inverse-done}
-use Rattle.arrangements.proofs.composed.inverse_of.Statement.{statement}
-use Rattle.arrangements.proofs.composed.inverse_of.Tie as tie
+use Rattle.composing.specs.Composed.{placeOf}
+use Rattle.composing.proofs.CodeComposed.{inverse-starts, inverse-turns, inverse-done}
+use Rattle.composing.proofs.composed.inverse_of.Statement.{statement}
+use Rattle.composing.proofs.composed.inverse_of.Tie as tie
 
 abbrev Inv-loop : tie.InvT-loop
 Inv-loop n p out₀ i₀ out i = (i ≤ n) × (out ≡ placed (placeOf p i) n)
