@@ -1,7 +1,7 @@
 use borrow.Author.Needs.{needs}
-use Rattle.clause.proofs.ClauseMasks.{sources-all, sources-up, sources-at, sources-before}
-use Rattle.clause.proofs.written.sources.Statement.{statement}
-use Rattle.clause.proofs.written.sources.Tie as tie
+use Rattle.kinds.proofs.ColumnLaws.{sources-all, sources-up, sources-at, sources-before}
+use Rattle.kinds.proofs.columns.sources.Statement.{statement}
+use Rattle.kinds.proofs.columns.sources.Tie as tie
 
 returns : tie.Need-returns
 returns c = search (sources-all, needs)

@@ -1,7 +1,7 @@
 use borrow.Author.Needs.{needs}
-use Rattle.clause.proofs.ClauseMasks.{firsts-all, firsts-some, firsts-none}
-use Rattle.clause.proofs.written.firsts.Statement.{statement}
-use Rattle.clause.proofs.written.firsts.Tie as tie
+use Rattle.kinds.proofs.ColumnLaws.{firsts-all, firsts-some, firsts-none}
+use Rattle.kinds.proofs.columns.firsts.Statement.{statement}
+use Rattle.kinds.proofs.columns.firsts.Tie as tie
 
 returns : tie.Need-returns
 returns c = search (firsts-all, needs)

@@ -1,9 +1,9 @@
 use borrow.Author.Needs.{needs}
 use Prim.Native.Nat.{_-_, _≤_}
-use Rattle.clause.specs.Clauses.{FirstIn}
-use Rattle.clause.proofs.ClauseMasks.{first-none, first-more, first-done, place-low, place-high}
-use Rattle.clause.proofs.written.first_places.Statement.{statement}
-use Rattle.clause.proofs.written.first_places.Tie as tie
+use Rattle.kinds.specs.Kinds.{FirstIn}
+use Rattle.kinds.proofs.ColumnLaws.{first-none, first-more, first-done, place-low, place-high}
+use Rattle.kinds.proofs.columns.first_places.Statement.{statement}
+use Rattle.kinds.proofs.columns.first_places.Tie as tie
 
 abbrev Inv-loop : tie.InvT-loop
 Inv-loop path upto mask₀ i₀ mask i = (i ≤ upto) × FirstIn i path mask

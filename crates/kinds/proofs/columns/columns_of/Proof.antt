@@ -1,7 +1,7 @@
 use borrow.Author.Needs.{needs}
-use Rattle.clause.proofs.ClauseMasks.{columns-fit, columns-ahead}
-use Rattle.clause.proofs.written.columns_of.Statement.{statement}
-use Rattle.clause.proofs.written.columns_of.Tie as tie
+use Rattle.kinds.proofs.ColumnLaws.{columns-fit, columns-ahead}
+use Rattle.kinds.proofs.columns.columns_of.Statement.{statement}
+use Rattle.kinds.proofs.columns.columns_of.Tie as tie
 
 edges-of-requires : tie.Need-edges-of-requires
 edges-of-requires c κs = search needs

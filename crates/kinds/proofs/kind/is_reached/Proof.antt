@@ -1,7 +1,7 @@
 use borrow.Author.Needs.{needs}
-use Rattle.clause.proofs.CodeClause.{reached-row, reached-other}
-use Rattle.clause.proofs.written.is_reached.Statement.{statement}
-use Rattle.clause.proofs.written.is_reached.Tie as tie
+use Rattle.kinds.proofs.KindLaws.{reached-row, reached-other}
+use Rattle.kinds.proofs.kind.is_reached.Statement.{statement}
+use Rattle.kinds.proofs.kind.is_reached.Tie as tie
 
 returns : tie.Need-returns
 returns c = search (reached-row, needs)

@@ -1,7 +1,7 @@
 use borrow.Author.Needs.{needs}
-use Rattle.clause.proofs.CodeClause.{kind-is}
-use Rattle.clause.proofs.written.kind_at.Statement.{statement}
-use Rattle.clause.proofs.written.kind_at.Tie as tie
+use Rattle.kinds.proofs.KindLaws.{kind-is}
+use Rattle.kinds.proofs.kind.kind_at.Statement.{statement}
+use Rattle.kinds.proofs.kind.kind_at.Tie as tie
 
 entry-in-requires : tie.Need-entry-in-requires
 entry-in-requires c κs = search needs

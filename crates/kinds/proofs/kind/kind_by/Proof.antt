@@ -1,7 +1,7 @@
 use borrow.Author.Needs.{needs}
-use Rattle.clause.proofs.CodeClause.{kind-own, kind-not, kind-not-late, kind-gap, kind-gap-late, kind-unknown}
-use Rattle.clause.proofs.written.kind_by.Statement.{statement}
-use Rattle.clause.proofs.written.kind_by.Tie as tie
+use Rattle.kinds.proofs.KindLaws.{kind-own, kind-not, kind-not-late, kind-gap, kind-gap-late, kind-unknown}
+use Rattle.kinds.proofs.kind.kind_by.Statement.{statement}
+use Rattle.kinds.proofs.kind.kind_by.Tie as tie
 
 returns : tie.Need-returns
 returns c = search (kind-own, needs)

@@ -1,7 +1,7 @@
 use borrow.Author.Needs.{needs}
-use Rattle.clause.proofs.CodeClause.{reached-rising, reached-falling}
-use Rattle.clause.proofs.written.is_reached_of.Statement.{statement}
-use Rattle.clause.proofs.written.is_reached_of.Tie as tie
+use Rattle.kinds.proofs.KindLaws.{reached-rising, reached-falling}
+use Rattle.kinds.proofs.kind.is_reached_of.Statement.{statement}
+use Rattle.kinds.proofs.kind.is_reached_of.Tie as tie
 
 is-reached-requires : tie.Need-is-reached-requires
 is-reached-requires c κs = search needs

@@ -21,10 +21,10 @@ use Rattle.arrangements.proofs.Permits.{reordering-tested}
 use Rattle.composing.proofs.Composing.{inverse-before, inverse-reordering}
 use Rattle.judging.specs.Judging.{samePair, pairOfTwo, image}
 use Rattle.turns.specs.Turns.{allMarks, marksOf, Within}
-use Rattle.clause.specs.Clauses.{reached, kindAt, FirstIn, Before, Firsts, Sources, Ahead}
+use Rattle.kinds.specs.Kinds.{reached, kindAt, FirstIn, Before, Firsts, Sources, Ahead}
 use Rattle.turns.proofs.AlikeRows.{all-bits}
 use Rattle.judging.proofs.Images.{two-rising, two-falling}
-use Rattle.clause.proofs.CodeClause.{reached-row, reached-other, Seen, itself, edge, late-edge, gap, late-gap, unknown, seen}
+use Rattle.kinds.proofs.KindLaws.{reached-row, reached-other, Seen, itself, edge, late-edge, gap, late-gap, unknown, seen}
 
 -- ---- the first places of a path
 
