@@ -1,5 +1,5 @@
 -- Arrangements: 32 numbers, of which the one at index i - 1 is the vertex p(i) put at place i, with zeros after place n.
-use Prim.Native.Nat.{ℕ, zero, _-_, _≤_, _<_}
+use Prim.Native.Nat.{ℕ, _-_, _≤_, _<_}
 use mathlib.Core.Path.{_≡_}
 use mathlib.Core.Logic.{_≢_}
 use mathlib.Core.Bool.{Bool, not}

@@ -12,7 +12,6 @@ use mir.Val.{SFits, toZ, ofZ}
 use mir.Facts.{toZ-pos, toZ-ofZ}
 use borrow.Author.Tests.{eq-eqb, ne-eqb}
 use Rattle.walk.specs.Clause.{numbered}
-use Rattle.pairs.specs.Pairs.{pair}
 use Rattle.clause.specs.Clauses.{writtenFor, Wrote}
 
 -- a pair's number and its negative are what is stored for them
