@@ -1,5 +1,4 @@
 pub mod CodeTests
 pub mod CodePlaces
 pub mod Permits
-pub mod Composing
 pub mod Blocks

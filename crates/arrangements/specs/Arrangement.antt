@@ -1,5 +1,5 @@
 -- Arrangements: 32 numbers, of which the one at index i - 1 is the vertex p(i) put at place i, with zeros after place n.
-use Prim.Native.Nat.{ℕ, zero, suc, _-_, _≤_, _<_}
+use Prim.Native.Nat.{ℕ, _-_, _≤_, _<_}
 use mathlib.Core.Path.{_≡_}
 use mathlib.Core.Logic.{_≢_}
 use mathlib.Core.Bool.{Bool, not}
@@ -9,7 +9,7 @@ use lib.Dec.{leb, eqb}
 use Rattle.laws.specs.Bit.{bit}
 use Rattle.laws.specs.Test.{both, pick}
 use Rattle.laws.specs.UpTo.{allUpTo, wordUpTo}
-use Rattle.rows.specs.Rows.{row, placed, startAt, blockOf}
+use Rattle.rows.specs.Rows.{row, startAt, blockOf}
 
 -- p(i)
 abbrev pub at : List ℕ → ℕ → ℕ
@@ -51,7 +51,7 @@ staysInBlock starts p i = eqb (blockOf starts (at p i)) (blockOf starts i)
 unfoldable pub isPermitted : ℕ → ℕ → List ℕ → Bool
 isPermitted n starts p = both (isReordering n p) (allUpTo (staysInBlock starts p) n)
 
--- ---- moving rows, composing, inverting
+-- ---- moving rows
 
 -- row i of the rows moved by p: the bit of j is that of p(j) in row p(i)
 unfoldable pub movedBit : List ℕ → List ℕ → ℕ → ℕ → ℕ
@@ -59,22 +59,6 @@ movedBit rows p i j = bit (row rows (at p i)) (at p j - 1)
 
 unfoldable pub movedRow : List ℕ → List ℕ → ℕ → ℕ → ℕ
 movedRow rows p n i = wordUpTo (movedBit rows p i) n
-
--- p composed with q puts p(q(i)) at i
-abbrev pub through : List ℕ → List ℕ → ℕ → ℕ
-through p q i = at p (at q i)
-
-unfoldable pub composed : ℕ → List ℕ → List ℕ → List ℕ
-composed n p q = placed (through p q) n
-
--- the last of the places 1..n at which p has v, or 0
-unfoldable pub placeOf : List ℕ → ℕ → ℕ → ℕ
-placeOf p zero v = 0
-placeOf p (suc n) v = pick (eqb (at p (suc n)) v) (suc n) (placeOf p n v)
-
--- the inverse puts at v the place at which p has v
-unfoldable pub inverse : ℕ → List ℕ → List ℕ
-inverse n p = placed (placeOf p n) n
 
 -- ---- blocks
 

@@ -6,7 +6,7 @@ use mathlib.Core.Path.{_≡_, _∙_, ap}
 use mathlib.Core.Logic.{_⊎_, inl, inr, _≢_, _↔_, ⊎-elim}
 use mathlib.Core.List.{List, [], _∷_, _++_}
 use lib.ListN.{length, length-append}
-use Rattle.beginnings.specs.Search.{Judgement, won, NoneWon, FirstWon, throughWon, subtrees, reached, needed, stepsNeeded, cut, none, first, told, searched}
+use Rattle.beginnings.specs.Search.{Judgement, NoneWon, FirstWon, throughWon, subtrees, reached, needed, stepsNeeded, cut, none, first, told, searched}
 use Rattle.beginnings.proofs.Completed.{first-exists}
 use Rattle.beginnings.proofs.Subtree.{subtrees-more, subtree-root}
 use Rattle.beginnings.proofs.Count.{none-or-first, through-none, through-first, try-all, try-first, try-short, through-some}

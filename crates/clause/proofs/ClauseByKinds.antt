@@ -20,21 +20,23 @@ use Rattle.walk.proofs.Reached.{literals-in-words}
 use Rattle.walk.proofs.Clause.{among-listed}
 use Rattle.graph.specs.declared.Graph.{Graph}
 use Rattle.graph.specs.WellFormed.{wellFormed}
-use Rattle.arrangements.specs.Arrangement.{at, Reordering, isReordering, isPermitted, inverse}
+use Rattle.arrangements.specs.Arrangement.{at, Reordering, isReordering, isPermitted}
+use Rattle.composing.specs.Composed.{inverse}
 use Rattle.pairs.specs.Pairs.{Pair, pair, pairs, number, Between, numberOf}
 use Rattle.graph.specs.Counts.{entryAt}
 use Rattle.pairs.proofs.PairLaws.{pairs-given, pairs-has, number-one, number-next-row}
 use Rattle.graph.proofs.Formed.{formed}
 use Rattle.arrangements.proofs.Permits.{permitted, reordering-tested}
-use Rattle.arrangements.proofs.Composing.{inverse-before, inverse-reordering}
+use Rattle.composing.proofs.Composing.{inverse-before, inverse-reordering}
 use Rattle.judging.specs.Judging.{samePair, pairOfTwo, image, walkAll, literalsOf, clauseOf}
 use Rattle.graph.specs.Graph.{graphOf}
-use Rattle.clause.specs.Clauses.{reached, kindAt, writtenFor, writtenAlong, Wrote}
+use Rattle.clause.specs.Clauses.{writtenFor, writtenAlong, Wrote}
+use Rattle.kinds.specs.Kinds.{reached, kindAt}
 use Rattle.judging.proofs.Arrangements.{samePair-tells, image-between}
 use Rattle.judging.proofs.Images.{two-rising, two-falling, image-once}
 use Rattle.judging.proofs.Judgements.{walk-stands}
 use Rattle.judging.proofs.Literals.{stands-before, before-stands}
-use Rattle.clause.proofs.CodeClause.{reached-row, reached-other, Seen, itself, edge, late-edge, gap, late-gap, unknown, seen}
+use Rattle.kinds.proofs.KindLaws.{reached-row, reached-other, Seen, itself, edge, late-edge, gap, late-gap, unknown, seen}
 
 -- ---- the order of the pairs is that of their numbers
 

@@ -1,6 +1,5 @@
 pub mod CodeClause
 pub mod Writing
-pub mod ClauseMasks
 pub mod ClauseByKinds
 pub mod CodeCertificate
 pub mod Completing

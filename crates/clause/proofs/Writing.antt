@@ -17,7 +17,8 @@ use Rattle.laws.specs.Masks.{not-empty, lowest-below}
 use Rattle.walk.specs.Clause.{numbered}
 use Rattle.pairs.specs.Pairs.{Pair, pair, alongRow, fromRow, pairs, pairCount, number}
 use Rattle.pairs.proofs.PairLaws.{pairCount-mono, number-first, number-next-row, number-low, number-high, alongRow-length}
-use Rattle.clause.specs.Clauses.{writtenFor, writtenAlong, Ahead, Wrote}
+use Rattle.clause.specs.Clauses.{writtenFor, writtenAlong, Wrote}
+use Rattle.kinds.specs.Kinds.{Ahead}
 use Rattle.exploring.proofs.MaskLaws.{lowest-least, shifted}
 use Rattle.turns.proofs.CodeTurns.{row-and-rest}
 

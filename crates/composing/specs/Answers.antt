@@ -4,7 +4,8 @@ use mathlib.Core.List.{List}
 use lib.ListN.{replicate}
 use Rattle.laws.specs.Test.{both, unless}
 use Rattle.pairs.specs.Vertices.{orderFits}
-use Rattle.arrangements.specs.Arrangement.{isReordering, composed, inverse}
+use Rattle.arrangements.specs.Arrangement.{isReordering}
+use Rattle.composing.specs.Composed.{composed, inverse}
 use Rattle.composing.specs.declared.Arrangement.{Arrangement}
 
 abbrev pub arrangement : ℕ → ℕ → List ℕ → Arrangement

@@ -1,1 +1,2 @@
+pub mod Composed
 pub mod Answers

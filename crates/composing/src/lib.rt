@@ -1,10 +1,12 @@
 // Arrangements composed and inverted. Vertices and places are numbered from 1.
+pub mod composed;
+
 ghost use mathlib.Core.Path.{_≡_};
 ghost use lib.ListN.{replicate};
 ghost use Rattle.composing.specs.Answers.{arrangement, composeAnswer, invertAnswer};
-use arrangements::composed::composed_of;
-use arrangements::composed::inverse_of;
 use arrangements::reordering::is_reordering;
+use composed::composed_of;
+use composed::inverse_of;
 use pairs::vertices::order_fits;
 
 // The vertex at place i stands at index i - 1; zeros follow after the last place. A refusal of 0 says that there is none.

@@ -127,9 +127,6 @@ module _ (n : ℕ) (block : ℕ → ℕ) where
     pub used-below : usedMask b < 2 ^ n
     used-below = tells-after [] b tells-none f .below
 
-    pub used-fits : (used : ℕ) → used ≡ usedMask b → used < 2 ^ n
-    used-fits used e = rw e used-below
-
 -- ---- the vertices of a block
 
 module _ (block : ℕ → ℕ) (n i : ℕ) where

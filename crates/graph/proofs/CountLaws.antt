@@ -1,6 +1,5 @@
 -- The counts over a graph's pairs are sums of ones of its row masks.
 use Prim.Native.Nat.{ℕ, zero, suc, _+_, _-_, _*_, _/_, _≤_, _<_}
-use native.Mathlib.Nat.{le-trans}
 use native.Mathlib.Omega.{arith}
 use mathlib.Core.Path.{_≡_, refl, sym, ap, ap₂, _∙_}
 use mathlib.Core.Bool.{Bool, true, false}
@@ -164,10 +163,6 @@ module _ (n : ℕ) (rows : List ℕ) (m : Marks n rows) where
   -- and rows past n add nothing
   pub rowOnes-further : (k : ℕ) → n ≤ k → sumUpTo (rowOnes rows) k ≡ sumUpTo (rowOnes rows) n
   rowOnes-further k h = let e : k ≡ n + (k - n) = omega arith in ap (sumUpTo (rowOnes rows)) e ∙ sumUpTo-past (rowOnes rows) n (k - n) rowOnes-past
-
-  -- k rows of at most 32 columns have at most 32 * k, and so at most 1024 up to row 32
-  pub ones-small : n ≤ 32 → (k : ℕ) → k ≤ 32 → sumUpTo (rowOnes rows) k ≤ 1024
-  ones-small l k h = omega (arith, sum-bound (rowOnes rows) 32 k (λ i p q. le-trans (rowOnes-le i) l))
 
 -- ---- one entry
 

@@ -16,7 +16,7 @@ use Rattle.graph.specs.Graph.{relabelled}
 use Rattle.pairs.specs.Pairs.{Pair, pair, pairs, Between}
 use Rattle.graph.specs.Counts.{entryAt}
 use Rattle.pairs.proofs.PairLaws.{pairs-given}
-use Rattle.arrangements.proofs.Composing.{one-place}
+use Rattle.composing.proofs.Composing.{one-place}
 use Rattle.graph.proofs.Relabelling.{relabelled-entry}
 use Rattle.judging.specs.Judging.{pairOfTwo, image}
 use Rattle.judging.proofs.Arrangements.{entry-of-two}

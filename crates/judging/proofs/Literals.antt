@@ -22,7 +22,8 @@ use Rattle.walk.proofs.Broken.{walk-clause-breaks}
 use Rattle.graph.specs.declared.Graph.{Graph}
 use Rattle.rows.specs.Rows.{placed, mirrored}
 use Rattle.graph.specs.Graph.{drawn}
-use Rattle.arrangements.specs.Arrangement.{Reordering, placeOf, inverse}
+use Rattle.arrangements.specs.Arrangement.{Reordering}
+use Rattle.composing.specs.Composed.{placeOf, inverse}
 use Rattle.pairs.specs.Pairs.{Pair, pair, alongRow, fromRow, pairs, pairCount, number, Between, numberOf}
 use Rattle.graph.specs.Counts.{entryAt}
 use Rattle.pairs.proofs.PairLaws.{pairs-given, pairs-has, pairs-length, split-number, before-smaller}

@@ -13,13 +13,14 @@ use Rattle.walk.proofs.Order.{earlier-none, earlier-cases}
 use Rattle.graph.specs.declared.Graph.{Graph}
 use Rattle.graph.specs.Graph.{entry, relabelled}
 use Rattle.graph.specs.WellFormed.{WellFormed}
-use Rattle.arrangements.specs.Arrangement.{at, Reordering, Permitted, composed}
+use Rattle.arrangements.specs.Arrangement.{at, Reordering, Permitted}
+use Rattle.composing.specs.Composed.{composed}
 use Rattle.pairs.specs.Pairs.{Pair, pairs, pairCount}
 use Rattle.graph.specs.Counts.{entryAt}
 use Rattle.judging.specs.Order.{EarlierGraph, matrixWord, FullyDrawn}
 use Rattle.rows.proofs.Placed.{placed-at}
 use Rattle.graph.proofs.Drawn.{same-graph}
-use Rattle.arrangements.proofs.Composing.{identity, identity-permitted, composed-at, composed-permitted}
+use Rattle.composing.proofs.Composing.{identity, identity-permitted, composed-at, composed-permitted}
 use Rattle.graph.proofs.Relabelling.{relabelled-order, relabelled-starts, relabelled-entry, relabelled-formed}
 use Rattle.judging.proofs.FullyDrawn.{relabelled-drawn}
 use Rattle.judging.specs.declared.Judged.{Judged}

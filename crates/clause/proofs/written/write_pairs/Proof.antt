@@ -1,8 +1,8 @@
 use borrow.Author.Needs.{needs}
 use Prim.Native.Nat.{_-_}
 use Rattle.pairs.specs.Pairs.{pair}
-use Rattle.clause.specs.Clauses.{kindAt}
-use Rattle.clause.proofs.ClauseMasks.{before-within, row-within, column-within, first-before, places-tested, source-known}
+use Rattle.kinds.specs.Kinds.{kindAt}
+use Rattle.kinds.proofs.ColumnLaws.{before-within, row-within, column-within, first-before, places-tested, source-known}
 use Rattle.clause.proofs.Writing.{Rows, rows-begin, rows-long, rows-done, few-before, room-for, rows-turn}
 use Rattle.clause.proofs.written.write_pairs.Statement.{statement}
 use Rattle.clause.proofs.written.write_pairs.Tie as tie

@@ -1,7 +1,7 @@
 use borrow.Author.Needs.{needs}
 use Prim.Native.Nat.{_+_, _-_}
 use Rattle.pairs.specs.Pairs.{pair}
-use Rattle.clause.specs.Clauses.{kindAt}
+use Rattle.kinds.specs.Kinds.{kindAt}
 use Rattle.clause.proofs.Writing.{Along, along-begins, along-long, along-done, column-in, column-after, lowest-small, column-fits, next-column-fits, number-fits, next-number-fits, number-small, fewer-left, room-left, along-turns}
 use Rattle.clause.proofs.written.write_row.Statement.{statement}
 use Rattle.clause.proofs.written.write_row.Tie as tie
