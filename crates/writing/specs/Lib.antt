@@ -1,2 +1,3 @@
 pub mod Pushed
+pub mod Along
 pub mod Reached

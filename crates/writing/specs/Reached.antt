@@ -13,8 +13,7 @@ use Rattle.writing.specs.declared.pen.Pen.{Pen}
 -- the bits before a place are stored in o, which was d, or wait in the pen p
 pub record Reached (g : Graph) (d o : List ℕ) (p : Pen) (place : ℕ) : Type 0 where
   pub at : 8 * p .stored + p .have ≡ place
-  pub few : p .have < 8
-  pub small : p .kept < 128
+  pub few : p .have < 64
   pub bits : p .kept ≡ num (recordBit g) (8 * p .stored) (p .have)
   pub bytes : o ≡ listUpTo (recordByte g) (p .stored) ++ drop (p .stored) d
   pub long : length o ≡ length d

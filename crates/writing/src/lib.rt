@@ -1,8 +1,9 @@
 // Writing the record of a graph.
 mod pen;
+mod put;
 
 use graph::Graph;
-use pen::put;
+use put::put;
 use record::Written;
 use record::layout::byte_count;
 ghost use mathlib.Core.Path.{_≡_};

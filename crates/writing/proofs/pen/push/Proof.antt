@@ -1,37 +1,49 @@
+use Rattle.writing.proofs.CodePen.{kept-fits, push-waits, word-fits, push-stores}
 use borrow.Author.Needs.{needs}
-use Rattle.writing.proofs.CodePen.{push-waits, push-stores}
 use Rattle.writing.proofs.pen.push.Statement.{statement}
 use Rattle.writing.proofs.pen.push.Tie as tie
 
 add-have : tie.Need-add-have
 add-have c = search needs
 
-shl-total : tie.Need-shl-total
-shl-total c = search needs
+shl-t10 : tie.Need-shl-t10
+shl-t10 c = search needs
 
-add-total : tie.Need-add-total
-add-total c = search needs
+add-t11 : tie.Need-add-t11
+add-t11 c = search (kept-fits, needs)
 
 returns : tie.Need-returns
 returns c = search (push-waits, needs)
 
-shr-out : tie.Need-shr-out
-shr-out c = search needs
+sub-store : tie.Need-sub-store
+sub-store c = search needs
 
-cast-out : tie.Need-cast-out
-cast-out c = search needs
+cast-store : tie.Need-cast-store
+cast-store c = search needs
 
-slice-write-out : tie.Need-slice-write-out
-slice-write-out c = search needs
+shl-store : tie.Need-shl-store
+shl-store c = search needs
 
-add-t14 : tie.Need-add-t14
-add-t14 c = search needs
+cast-store-2 : tie.Need-cast-store-2
+cast-store-2 c = search needs
+
+shr-store : tie.Need-shr-store
+shr-store c = search needs
+
+add-store : tie.Need-add-store
+add-store c = search (word-fits, needs)
+
+store-requires : tie.Need-store-requires
+store-requires c κs = search needs
+
+add-t21 : tie.Need-add-t21
+add-t21 c = search needs
 
 power-requires : tie.Need-power-requires
 power-requires c κs = search needs
 
-rem-t10 : tie.Need-rem-t10
-rem-t10 c = search needs
+rem-t20 : tie.Need-rem-t20
+rem-t20 c = search needs
 
 same-length : tie.Need-same-length
 same-length c = search needs
@@ -44,14 +56,18 @@ push-spec =
     tie.close
     (tie.spec
     add-have
-    shl-total
-    add-total
+    shl-t10
+    add-t11
     returns
-    shr-out
-    cast-out
-    slice-write-out
-    add-t14
+    sub-store
+    cast-store
+    shl-store
+    cast-store-2
+    shr-store
+    add-store
+    store-requires
+    add-t21
     power-requires
-    rem-t10
+    rem-t20
     same-length
     returns-2)
