@@ -11,7 +11,7 @@ use borrow.Author.Tests.{eqb-true, eq-eqb, ne-eqb}
 use Rattle.laws.specs.Test.{both, either, pick}
 use Rattle.laws.specs.Bit.{bit}
 use Rattle.laws.specs.UpTo.{sumUpTo}
-use Rattle.laws.specs.UpToLaws.{sum-same, sum-added, sum-bound}
+use Rattle.laws.specs.UpToLaws.{sum-same, sum-added}
 use Rattle.laws.specs.SumLaws.{sumUpTo-past, sumUpTo-one, sumFrom, sumFrom-upTo, sumFrom-same, sumFrom-add, sumAlong, sumAlong-append, ones-sum-low}
 use Rattle.graph.specs.declared.Graph.{Graph}
 use Rattle.rows.specs.Rows.{row}
@@ -156,11 +156,7 @@ module _ (n : ℕ) (rows : List ℕ) (m : Marks n rows) where
   marked-pairs =
       pairs-sum (markAt rows) (m .mirrored) n ∙ sum-same (λ i. sumUpTo (markAt rows i) n) (rowOnes rows) n (λ i p q. sym (rowOnes-sum i))
 
-  -- a row has at most n
-  pub rowOnes-le : (i : ℕ) → rowOnes rows i ≤ n
-  rowOnes-le i = rw (rowOnes-sum i) (omega (arith, sum-bound (markAt rows i) 1 n (λ j p q. omega arith)))
-
-  -- and rows past n add nothing
+  -- rows past n add nothing
   pub rowOnes-further : (k : ℕ) → n ≤ k → sumUpTo (rowOnes rows) k ≡ sumUpTo (rowOnes rows) n
   rowOnes-further k h = let e : k ≡ n + (k - n) = omega arith in ap (sumUpTo (rowOnes rows)) e ∙ sumUpTo-past (rowOnes rows) n (k - n) rowOnes-past
 

@@ -1,7 +1,8 @@
-// Shows the refusals of graph and of composing in the order of their checks: a line for each case, good and bad input side by
-// side, with the refusal's number, its place and the values beside it. The cases are a table on standard input, a row for
-// each: the letter of its kind; from column 2 on the graph by its order, its starts and the first three rows of edges and of
-// unknowns; from column 11 on the other numbers; from column 20 on its name. A number is a digit: 0 to 9, then a for 10 and so on.
+// Shows the refusals of graph and of composing in the order of their checks: a line for each case, good and bad input
+// side by side, with the refusal's number, its place and the values beside it. The cases are a table on standard input,
+// a row for each: the letter of its kind; from column 2 on the graph by its order, its starts and the first three rows
+// of edges and of unknowns; from column 11 on the other numbers; from column 20 on its name. A number is a digit: 0 to
+// 9, then a for 10 and so on.
 use composing::Arrangement;
 use graph::Change;
 use graph::Graph;

@@ -60,12 +60,6 @@ unfolding sumUpTo
 sum-added h f g zero e = refl
 sum-added h f g (suc n) e = omega (arith, sum-added h f g n (λ k l m. e k l (omega arith)), e (suc n) (omega arith) (omega arith))
 
--- terms up to b
-pub sum-bound : (f : ℕ → ℕ) (b n : ℕ) → ((k : ℕ) → 1 ≤ k → k ≤ n → f k ≤ b) → sumUpTo f n ≤ n * b
-unfolding sumUpTo
-sum-bound f b zero e = omega arith
-sum-bound f b (suc n) e = omega (arith, sum-bound f b n (λ k l h. e k l (omega arith)), e (suc n) (omega arith) (omega arith))
-
 -- a longer sum is no smaller
 pub sum-longer : (f : ℕ → ℕ) (m n : ℕ) → m ≤ n → sumUpTo f m ≤ sumUpTo f n
 unfolding sumUpTo

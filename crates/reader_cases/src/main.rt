@@ -1,26 +1,32 @@
 // Reads the fields of a record through a reader, two at a time, to its end and past it, and writes a line for each two.
 use fields::Value;
 use fields::reader::take_two;
-use show::number;
-use show::text;
+use show::filled;
 
 fn show_field(width: u32, found: Value) {
-    number(b"; width ", width as u64);
-    number(b": refusal ", found.refusal as u64);
-    number(b" place ", found.place as u64);
-    number(b" value ", found.value as u64);
+    filled(
+        b"; width #: refusal # place # value #",
+        [
+            width as u64,
+            found.refusal as u64,
+            found.place as u64,
+            found.value as u64,
+            0,
+            0,
+        ],
+    );
 }
 
 // Two fields that a reader at this bit place takes. Gives the reader's place after them.
 fn show_two(bytes: &[u8], place: usize, first: u32, second: u32) -> usize {
     let two = take_two(bytes, place, first, second);
-    number(b"reader at ", place as u64);
-    number(b" of ", bytes.len() as u64);
-    text(b" bytes");
+    filled(
+        b"reader at # of # bytes",
+        [place as u64, bytes.len() as u64, 0, 0, 0, 0],
+    );
     show_field(first, two.first);
     show_field(second, two.second);
-    number(b"; reader at ", two.next as u64);
-    text(b"\n");
+    filled(b"; reader at #\n", [two.next as u64, 0, 0, 0, 0, 0]);
     two.next
 }
 

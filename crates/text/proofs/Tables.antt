@@ -61,7 +61,8 @@ hex-starts s column digits =
 
 module _ (s : List ℕ) (column digits i v m : ℕ) (h : hexFrom s (column + i) (digits - i) v ≡ m) where
   -- the next one
-  pub hex-turns : (d : ℕ) → i < digits → d ≡ digitAt s (column + i) → hexFrom s (column + (i + 1)) (digits - (i + 1)) (v % 1152921504606846976 * 16 + d % 16) ≡ m
+  pub hex-turns : (d : ℕ) → i < digits → d ≡ digitAt s (column + i)
+      → hexFrom s (column + (i + 1)) (digits - (i + 1)) (v % 1152921504606846976 * 16 + d % 16) ≡ m
   unfolding hexFrom
   hex-turns d l e =
       let a : column + (i + 1) ≡ column + i + 1 = omega arith in

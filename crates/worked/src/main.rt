@@ -1,7 +1,8 @@
-// Runs the worked graphs of the rules, and each refusal of a library, and writes what came of it. The cases are a table on
-// standard input, a row for each: the letter of its kind; from column 2 on, in hexadecimal, how many bytes its record has,
-// from column 5 on the first three of them, with zeros after, and from column 12 on a budget; from column 21 on other numbers,
-// each a digit, with an arrangement from column 22 on; from column 26 on its name. A digit is 0 to 9, then a for 10 and so on.
+// Runs the worked graphs of the rules, and each refusal of a library, and writes what came of it. The cases are a table
+// on standard input, a row for each: the letter of its kind; from column 2 on, in hexadecimal, how many bytes its
+// record has, from column 5 on the first three of them, with zeros after, and from column 12 on a budget; from column
+// 21 on other numbers, each a digit, with an arrangement from column 22 on; from column 26 on its name. A digit is 0 to
+// 9, then a for 10 and so on.
 use graph::Graph;
 use judging::Judged;
 use libc::STDIN_FILENO;
