@@ -14,9 +14,9 @@ use Rattle.laws.specs.TestLaws.{pick-true, pick-false}
 use Rattle.laws.specs.Bit.{bit}
 use Rattle.laws.specs.UpTo.{wordUpTo}
 use Rattle.laws.specs.Loops.{word-turns, word-grows, word-fits}
-use Rattle.rows.specs.Rows.{row, placed}
-use Rattle.rows.proofs.Placed.{zeros, placed-length, placed-at, placed-past, same-places, placed-of}
-use Rattle.rows.proofs.Filled.{placed-done}
+use Rattle.words.specs.Placed.{row, placed}
+use Rattle.words.proofs.Placed.{zeros, placed-length, placed-at, placed-past, same-places, placed-of}
+use Rattle.words.proofs.Filled.{placed-done}
 use Rattle.arrangements.specs.Arrangement.{at, movedBit, movedRow, through, composed, inverse, placeOf}
 
 -- ---- where a vertex stands among one place more

@@ -9,7 +9,8 @@ use lib.Dec.{leb, eqb}
 use Rattle.laws.specs.Bit.{bit}
 use Rattle.laws.specs.Test.{both, pick}
 use Rattle.laws.specs.UpTo.{allUpTo, wordUpTo}
-use Rattle.rows.specs.Rows.{row, placed, blockOf}
+use Rattle.words.specs.Placed.{row, placed}
+use Rattle.rows.specs.Rows.{blockOf}
 
 -- p(i)
 abbrev pub at : List ℕ → ℕ → ℕ

@@ -16,12 +16,12 @@ use arrangements::composed::inverse_of;
 use arrangements::places::vertex_of;
 use pairs::number_of;
 use rows::entries::entry_in;
-use rows::words::lowest;
-use rows::words::without;
 use turns::path::weight_of;
 use turns::walked::edges_of;
 use turns::walked::is_own;
 use turns::walked::marks_of;
+use words::lowest;
+use words::without;
 
 // ---- the kind of a pair
 

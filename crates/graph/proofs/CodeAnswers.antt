@@ -16,7 +16,8 @@ use Rattle.laws.specs.UpToLaws.{word-same}
 use Rattle.graph.specs.declared.Graph.{Graph}
 use Rattle.graph.specs.declared.Change.{Change}
 use Rattle.graph.specs.declared.Arrangement.{Arrangement}
-use Rattle.rows.specs.Rows.{withMark, onesAt, placed}
+use Rattle.words.specs.Placed.{placed}
+use Rattle.rows.specs.Rows.{withMark, onesAt}
 use Rattle.graph.specs.Graph.{withEntry, relabelled}
 use Rattle.graph.specs.WellFormed.{WellFormed, wellFormed, orderFits}
 use Rattle.rows.specs.Fits.{startsFit, rowFits}
@@ -25,7 +26,7 @@ use Rattle.arrangements.specs.Arrangement.{at, isReordering, isPermitted, stays
 use Rattle.graph.specs.Answers.{isVertex, isPair, noGraph, reading, changed, totals, degree, arrangement}
 use Rattle.graph.proofs.Formed.{formed}
 use Rattle.graph.proofs.CountLaws.{edges-half, unknowns-half, all-counted, non-edges-left, edgesAt-ones}
-use Rattle.rows.proofs.Placed.{placed-same}
+use Rattle.words.proofs.Placed.{placed-same}
 use Rattle.graph.proofs.Rows.{edge-bit, unknown-bit}
 use Rattle.graph.proofs.Relabelling.{brought, broughtEdges, broughtUnknowns, relabelled-built}
 

@@ -17,7 +17,7 @@ use Rattle.arrangements.specs.Arrangement.{at, Reordering, Permitted, composed}
 use Rattle.pairs.specs.Pairs.{Pair, pairs, pairCount}
 use Rattle.graph.specs.Counts.{entryAt}
 use Rattle.graph.specs.Order.{EarlierGraph}
-use Rattle.rows.proofs.Placed.{placed-at}
+use Rattle.words.proofs.Placed.{placed-at}
 use Rattle.graph.proofs.Drawn.{same-graph}
 use Rattle.arrangements.proofs.Composing.{identity, identity-permitted, composed-at, composed-permitted}
 use Rattle.graph.proofs.Relabelling.{relabelled-order, relabelled-starts, relabelled-entry, relabelled-formed, relabelled-drawn}

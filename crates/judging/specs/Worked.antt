@@ -13,7 +13,8 @@ use Rattle.beginnings.specs.Beginning.{absent, mayFollow, children}
 use Rattle.beginnings.specs.Search.{whereOpen, subtree, subtrees, reached, onWon, tryAll, searched}
 use Rattle.beginnings.specs.Certificate.{withFirst, completed}
 use Rattle.graph.specs.declared.Graph.{Graph}
-use Rattle.rows.specs.Rows.{placed, mirrored}
+use Rattle.words.specs.Placed.{placed}
+use Rattle.rows.specs.Rows.{mirrored}
 use Rattle.graph.specs.Graph.{drawn}
 use Rattle.rows.specs.Fits.{pairFits, rowFits, startsFit}
 use Rattle.graph.specs.WellFormed.{orderFits, wellFormed}

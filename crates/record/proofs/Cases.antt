@@ -9,7 +9,8 @@ use Rattle.laws.specs.Num.{num}
 use Rattle.laws.specs.First.{firstUpTo, orElse}
 use Rattle.graph.specs.declared.Graph.{Graph}
 use Rattle.graph.specs.Graph.{drawn}
-use Rattle.rows.specs.Rows.{placed, mirrored}
+use Rattle.words.specs.Placed.{placed}
+use Rattle.rows.specs.Rows.{mirrored}
 use Rattle.graph.specs.WellFormed.{wellFormed, orderFits}
 use Rattle.rows.specs.Fits.{startsFit, rowFits, pairFits}
 use Rattle.pairs.specs.Pairs.{pairs, fromRow, alongRow}

@@ -1,6 +1,6 @@
 // Where the parts of a record stand and how long it is, for an order in range.
 ghost use mathlib.Core.Path.{_≡_};
-ghost use Prim.Native.Nat.{_+_, _*_, _≤_, _<_};
+ghost use Prim.Native.Nat.{_+_, _*_, _≤_};
 ghost use Rattle.record.specs.Layout.{cell, bitCount, byteCount};
 use pairs::pair_count;
 use pairs::product;

@@ -1,9 +1,9 @@
 use borrow.Author.Needs.{needs}
 use Prim.Native.Nat.{_-_, _≤_}
 use mathlib.Core.Path.{_≡_}
-use Rattle.rows.specs.Rows.{placed}
+use Rattle.words.specs.Placed.{placed}
 use Rattle.arrangements.specs.Arrangement.{through}
-use Rattle.rows.proofs.Filled.{placed-starts, placed-turns}
+use Rattle.words.proofs.Filled.{placed-starts, placed-turns}
 use Rattle.arrangements.proofs.CodePlaces.{composed-done}
 use Rattle.arrangements.proofs.composed.composed_of.Statement.{statement}
 use Rattle.arrangements.proofs.composed.composed_of.Tie as tie
