@@ -7,7 +7,7 @@ use lib.ListN.{getD}
 use Rattle.laws.specs.Bit.{bit}
 use Rattle.laws.specs.UpTo.{wordUpTo}
 use Rattle.laws.specs.Loops.{word-turns, word-grows, word-fits}
-use Rattle.rows.specs.Rows.{row}
+use Rattle.words.specs.Placed.{row}
 use Rattle.arrangements.specs.Arrangement.{at, movedBit, movedRow}
 
 pub row-of-place : (rows p : List ℕ) (i v : ℕ) → v ≡ at p i → getD rows (v - 1) 0 ≡ row rows (at p i)

@@ -9,7 +9,8 @@ use lib.Dec.{leb, eqb}
 use Rattle.laws.specs.Bit.{bit}
 use Rattle.laws.specs.Test.{both, pick}
 use Rattle.laws.specs.UpTo.{allUpTo, wordUpTo}
-use Rattle.rows.specs.Rows.{row, startAt, blockOf}
+use Rattle.rows.specs.Rows.{startAt, blockOf}
+use Rattle.words.specs.Placed.{row}
 
 -- p(i)
 abbrev pub at : List ℕ → ℕ → ℕ

@@ -3,10 +3,10 @@ ghost use mathlib.Core.Path.{_≡_};
 ghost use mathlib.Core.Bool.{true};
 ghost use Prim.Native.Nat.{_+_, _-_, _*_, _≤_, _<_, _^_};
 ghost use Rattle.laws.specs.Bit.{bit};
-ghost use Rattle.rows.specs.Rows.{placed};
+ghost use Rattle.words.specs.Placed.{placed};
 ghost use Rattle.arrangements.specs.Arrangement.{at, isReordering, movedRow};
 use crate::places::vertex_of;
-use rows::words::weight;
+use words::weight;
 
 // The bit that w has at the vertex at place j + 1, put at place j of a word.
 fn moved_weight(w: u32, n: u32, p: &[u8; 32], j: u32) -> u32

@@ -16,8 +16,9 @@ use Rattle.beginnings.specs.Certificate.{completed}
 use Rattle.beginnings.proofs.Children.{Child, child-of-mem}
 use Rattle.beginnings.proofs.Follows.{Follows, length-more, follows-append, beginning-follows, beginning-of}
 use Rattle.beginnings.proofs.Completed.{completed-none, completed-more, first-child, child-exists}
-use Rattle.rows.specs.Rows.{blockOf, placed}
-use Rattle.rows.proofs.Placed.{placed-at}
+use Rattle.words.specs.Placed.{placed}
+use Rattle.rows.specs.Rows.{blockOf}
+use Rattle.words.proofs.Placed.{placed-at}
 use Rattle.judging.specs.Judging.{padded}
 use Rattle.exploring.specs.Masks.{usedMask, blockMask}
 use Rattle.exploring.proofs.MaskLaws.{used-down, used-below, mask-children, mask-fits}

@@ -4,17 +4,18 @@ ghost use Prim.Native.Nat.{_-_, _≤_};
 ghost use lib.ListN.{length, take, drop, replicate};
 ghost use Rattle.beginnings.specs.Beginning.{Beginning};
 ghost use Rattle.beginnings.specs.Certificate.{completed};
-ghost use Rattle.rows.specs.Rows.{blockOf, placed};
+ghost use Rattle.words.specs.Placed.{placed};
+ghost use Rattle.rows.specs.Rows.{blockOf};
 ghost use Rattle.pairs.specs.Pairs.{pair, pairs};
 ghost use Rattle.judging.specs.Judging.{padded};
 ghost use Rattle.exploring.specs.Masks.{usedMask, blockMask};
 ghost use Rattle.turns.specs.Turns.{turnAt, firstPair, Within};
-use rows::words::lowest;
-use rows::words::power;
-use rows::words::without;
 use turns::path::stored;
 use turns::path::weight_of;
 use turns::walked::pair_turn;
+use words::lowest;
+use words::power;
+use words::without;
 
 // The vertices of the path's first places as a mask.
 fn used_mask(path: &[u8; 32], n: u32, starts: u32, depth: u32) -> u32

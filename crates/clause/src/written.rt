@@ -21,7 +21,7 @@ use kinds::columns::firsts;
 use kinds::columns::sources;
 use kinds::kind::kind_at;
 use pairs::number_of;
-use rows::words::lowest;
+use words::lowest;
 
 // Writes m after the first count literals, as its kind says, and answers how many there are then.
 fn put(literals: &mut [i32], count: usize, m: u32, kind: u32) -> usize

@@ -11,9 +11,9 @@ use lib.Seq.{getD-set-same, getD-set-other}
 use borrow.Author.Tests.{eq-eqb, ne-eqb}
 use Rattle.laws.specs.Compared.{by-below, by-same}
 use Rattle.laws.specs.TestLaws.{pick-true, pick-false}
-use Rattle.rows.specs.Rows.{placed}
-use Rattle.rows.proofs.Placed.{zeros, placed-length, placed-at, placed-past, same-places, placed-of}
-use Rattle.rows.proofs.Filled.{placed-done}
+use Rattle.words.specs.Placed.{placed}
+use Rattle.words.proofs.Placed.{zeros, placed-length, placed-at, placed-past, same-places, placed-of}
+use Rattle.words.proofs.Filled.{placed-done}
 use Rattle.arrangements.specs.Arrangement.{at}
 use Rattle.composing.specs.Composed.{through, composed, inverse, placeOf}
 

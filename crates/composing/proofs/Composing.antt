@@ -9,10 +9,11 @@ use borrow.Author.Tests.{eq-eqb, ne-eqb}
 use Rattle.laws.specs.Compared.{by-order, by-below, by-same}
 use Rattle.laws.specs.TestLaws.{pick-true, pick-false}
 use Rattle.laws.specs.Pigeonhole.{each-taken}
-use Rattle.rows.specs.Rows.{placed, blockOf}
+use Rattle.rows.specs.Rows.{blockOf}
+use Rattle.words.specs.Placed.{placed}
 use Rattle.arrangements.specs.Arrangement.{at, Reordering, Permitted}
 use Rattle.composing.specs.Composed.{composed, placeOf, inverse}
-use Rattle.rows.proofs.Placed.{placed-length, placed-at, placed-past}
+use Rattle.words.proofs.Placed.{placed-length, placed-at, placed-past}
 
 -- numbers placed at 1..n make a reordering where they are of 1..n and no two are equal
 placed-reordering : (n : ℕ) (f : ℕ → ℕ) → n ≤ 32 → ((i : ℕ) → 1 ≤ i → i ≤ n → 1 ≤ f i) → ((i : ℕ) → 1 ≤ i → i ≤ n → f i ≤ n)

@@ -8,8 +8,9 @@ use lib.ListN.{set}
 use Rattle.laws.specs.Test.{pick}
 use Rattle.laws.specs.UpToLaws.{sum-longer, word-same}
 use Rattle.laws.specs.Loops.{sum-turns}
-use Rattle.rows.specs.Rows.{blockOf, startAt, placed}
-use Rattle.rows.proofs.Filled.{placed-turns}
+use Rattle.words.specs.Placed.{placed}
+use Rattle.rows.specs.Rows.{blockOf, startAt}
+use Rattle.words.proofs.Filled.{placed-turns}
 use Rattle.exploring.specs.Masks.{sameBlock, blockMask, MaskOf, Fresh}
 
 -- ---- the masks of places, each from the one before

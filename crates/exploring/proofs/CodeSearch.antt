@@ -13,7 +13,7 @@ use lib.Pow.{pow-mono}
 use Rattle.laws.specs.Test.{pick}
 use Rattle.laws.specs.Bit.{bit}
 use Rattle.beginnings.specs.Search.{Found, cut, none, first, won}
-use Rattle.rows.specs.Rows.{row}
+use Rattle.words.specs.Placed.{row}
 use Rattle.pairs.specs.Pairs.{fromRow}
 use Rattle.graph.specs.WellFormed.{wellFormed}
 use Rattle.graph.proofs.Formed.{formed}

@@ -10,7 +10,7 @@ use borrow.Author.Tests.{eq-eqb, ne-eqb}
 use Rattle.laws.specs.Test.{pick}
 use Rattle.laws.specs.Bit.{bit}
 use Rattle.laws.specs.Compared.{by-same}
-use Rattle.rows.specs.Rows.{row}
+use Rattle.words.specs.Placed.{row}
 use Rattle.turns.specs.Turns.{allMarks, marksOf}
 use Rattle.exploring.specs.Stops.{ownMask, stopsAt, StopsFor, Stopped}
 

@@ -13,10 +13,11 @@ use Rattle.beginnings.proofs.Children.{Child, child-of-mem}
 use Rattle.beginnings.proofs.Follows.{Follows, follows-start, beginning-of}
 use Rattle.beginnings.proofs.Loop.{shorter-take, loop-begins, loop-over, loop-climb}
 use Rattle.graph.specs.declared.Graph.{Graph}
-use Rattle.rows.specs.Rows.{blockOf, placed}
+use Rattle.words.specs.Placed.{placed}
+use Rattle.rows.specs.Rows.{blockOf}
 use Rattle.graph.specs.WellFormed.{WellFormed}
 use Rattle.arrangements.specs.Arrangement.{at}
-use Rattle.rows.proofs.Placed.{placed-at}
+use Rattle.words.proofs.Placed.{placed-at}
 use Rattle.judging.specs.Judging.{judged, found}
 use Rattle.exploring.specs.Masks.{usedMask, blockMask}
 use Rattle.exploring.specs.Stops.{StopsFor}

@@ -17,7 +17,7 @@ use Rattle.laws.specs.Compared.{by-same}
 use Rattle.laws.specs.Masks.{bit-of-without}
 use Rattle.beginnings.specs.Search
 use Rattle.graph.specs.declared.Graph.{Graph}
-use Rattle.rows.specs.Rows.{row}
+use Rattle.words.specs.Placed.{row}
 use Rattle.graph.specs.WellFormed.{WellFormed}
 use Rattle.arrangements.specs.Arrangement.{at}
 use Rattle.pairs.specs.Pairs.{Pair, pair, fromRow}

@@ -20,7 +20,8 @@ use Rattle.beginnings.proofs.Children.{Child, child-of-mem}
 use Rattle.beginnings.proofs.Follows.{Follows, length-more, follows-append, beginning-of}
 use Rattle.beginnings.proofs.Loop.{loop-cut, loop-won, loop-lost, loop-full, loop-deeper}
 use Rattle.graph.specs.declared.Graph.{Graph}
-use Rattle.rows.specs.Rows.{blockOf, row}
+use Rattle.words.specs.Placed.{row}
+use Rattle.rows.specs.Rows.{blockOf}
 use Rattle.arrangements.specs.Arrangement.{at}
 use Rattle.pairs.specs.Pairs.{fromRow}
 use Rattle.judging.specs.Judging.{judged, found}

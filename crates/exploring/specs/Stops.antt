@@ -8,7 +8,7 @@ use lib.ListN.{length, getD}
 use lib.Dec.{eqb}
 use Rattle.laws.specs.Test.{pick}
 use Rattle.laws.specs.Bit.{bit}
-use Rattle.rows.specs.Rows.{row}
+use Rattle.words.specs.Placed.{row}
 use Rattle.turns.specs.Turns.{allMarks, marksOf}
 
 -- the vertex that makes the pair (1, k) its own image where u stands at place 1, as a mask

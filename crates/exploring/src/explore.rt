@@ -4,19 +4,20 @@ ghost use mathlib.Core.Bool.{true};
 ghost use Prim.Native.Nat.{_≤_};
 ghost use lib.ListN.{length, drop};
 ghost use Rattle.graph.specs.WellFormed.{wellFormed};
-ghost use Rattle.rows.specs.Rows.{blockOf, placed};
+ghost use Rattle.words.specs.Placed.{placed};
+ghost use Rattle.rows.specs.Rows.{blockOf};
 ghost use Rattle.exploring.specs.Masks.{blockMask};
 ghost use Rattle.judging.specs.Judging.{found};
 ghost use Rattle.graph.specs.Graph.{graphOf};
 ghost use Rattle.exploring.specs.Found.{foundBy};
 use crate::stops::set_stops;
-use rows::words::lowest;
-use rows::words::power;
-use rows::words::without;
 use turns::path::stored;
 use turns::path::weight_of;
 use turns::walked::edges_of;
 use turns::walked::rows_walk;
+use words::lowest;
+use words::power;
+use words::without;
 
 // How a search ended: kind 0 with nothing found, 1 with the path's first places as the first won beginning, 2 cut.
 pub struct Explored {

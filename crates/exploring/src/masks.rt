@@ -1,9 +1,10 @@
 // Masks of vertices: vertex v is bit v - 1.
 ghost use mathlib.Core.Path.{_≡_};
 ghost use Prim.Native.Nat.{_+_, _≤_, _<_};
-ghost use Rattle.rows.specs.Rows.{blockOf, placed};
-use rows::words::lowest;
-use rows::words::power;
+ghost use Rattle.words.specs.Placed.{placed};
+ghost use Rattle.rows.specs.Rows.{blockOf};
+use words::lowest;
+use words::power;
 ghost use Rattle.exploring.specs.Masks.{blockMask, MaskOf, Fresh};
 
 // The vertices from i + 1 up to the next start or to n, as a mask.

@@ -3,10 +3,10 @@ ghost use mathlib.Core.Path.{_≡_};
 ghost use Prim.Native.Nat.{_+_, _≤_, _<_};
 ghost use lib.ListN.{length, getD};
 ghost use Rattle.exploring.specs.Stops.{ownMask, stopsAt, Stopped};
-use rows::words::power;
-use rows::words::without;
 use turns::walked::edges_of;
 use turns::walked::marks_of;
+use words::power;
+use words::without;
 
 // The vertex that makes (1, k) its own image, where u stands at place 1.
 fn own_mask(u: u32, k: u32) -> u32

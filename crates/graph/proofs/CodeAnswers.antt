@@ -14,7 +14,8 @@ use Rattle.laws.specs.UpTo.{allUpTo, sumUpTo}
 use Rattle.laws.specs.UpToLaws.{word-same}
 use Rattle.graph.specs.declared.Graph.{Graph}
 use Rattle.graph.specs.declared.Change.{Change}
-use Rattle.rows.specs.Rows.{withMark, onesAt, placed}
+use Rattle.rows.specs.Rows.{withMark, onesAt}
+use Rattle.words.specs.Placed.{placed}
 use Rattle.graph.specs.Graph.{withEntry, relabelled}
 use Rattle.graph.specs.WellFormed.{WellFormed, wellFormed}
 use Rattle.pairs.specs.Vertices.{orderFits, isVertex, isPair}
@@ -25,7 +26,7 @@ use Rattle.arrangements.specs.Arrangement.{at, isReordering, isPermitted, stays
 use Rattle.graph.specs.Answers.{noGraph, reading, changed, totals, degree}
 use Rattle.graph.proofs.Formed.{formed}
 use Rattle.graph.proofs.CountLaws.{edges-half, unknowns-half, all-counted, non-edges-left, edgesAt-ones}
-use Rattle.rows.proofs.Placed.{placed-same}
+use Rattle.words.proofs.Placed.{placed-same}
 use Rattle.graph.proofs.Rows.{edge-bit, unknown-bit}
 use Rattle.graph.proofs.Relabelling.{brought, broughtEdges, broughtUnknowns, relabelled-built}
 

@@ -14,7 +14,7 @@ use Rattle.laws.specs.UpTo.{sumUpTo}
 use Rattle.laws.specs.UpToLaws.{sum-same, sum-added}
 use Rattle.laws.specs.SumLaws.{sumUpTo-past, sumUpTo-one, sumFrom, sumFrom-upTo, sumFrom-same, sumFrom-add, sumAlong, sumAlong-append, ones-sum-low}
 use Rattle.graph.specs.declared.Graph.{Graph}
-use Rattle.rows.specs.Rows.{row}
+use Rattle.words.specs.Placed.{row}
 use Rattle.graph.specs.WellFormed.{WellFormed}
 use Rattle.pairs.specs.Pairs.{Pair, alongRow, fromRow, pairs, pairCount, countOf}
 use Rattle.graph.specs.Counts.{entryAt, pairsWith, edgesAt}

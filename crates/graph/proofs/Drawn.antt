@@ -8,10 +8,11 @@ use Rattle.laws.specs.BitLaws.{bit-of-zero}
 use Rattle.laws.specs.UpTo.{wordUpTo}
 use Rattle.laws.specs.UpToLaws.{word-bit, word-past, word-same, word-of-bits}
 use Rattle.graph.specs.declared.Graph.{Graph}
-use Rattle.rows.specs.Rows.{row, mirrored, startAt}
+use Rattle.words.specs.Placed.{row}
+use Rattle.rows.specs.Rows.{mirrored, startAt}
 use Rattle.graph.specs.Graph.{entry, drawn}
 use Rattle.graph.specs.WellFormed.{WellFormed}
-use Rattle.rows.proofs.Placed.{placed-length, placed-at, placed-past, placed-same, placed-of}
+use Rattle.words.proofs.Placed.{placed-length, placed-at, placed-past, placed-same, placed-of}
 use Rattle.rows.proofs.Mirrored.{mirrored-loop, mirrored-symmetric, mirrored-small, mirrored-itself, mirrored-same}
 use Rattle.graph.proofs.Rows.{edge-bit, unknown-bit, edges-below, unknowns-below, edges-past, unknowns-past, formed-by}
 

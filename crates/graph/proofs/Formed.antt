@@ -12,7 +12,8 @@ use Rattle.laws.specs.TestLaws.{both-first, both-second, both-hold, pick-true, 
 use Rattle.laws.specs.BitLaws.{bits-past, bit-of-zero}
 use Rattle.laws.specs.UpToLaws.{all-at, all-hold}
 use Rattle.graph.specs.declared.Graph.{Graph}
-use Rattle.rows.specs.Rows.{row, startAt}
+use Rattle.words.specs.Placed.{row}
+use Rattle.rows.specs.Rows.{startAt}
 use Rattle.graph.specs.Graph.{entry}
 use Rattle.graph.specs.WellFormed.{WellFormed, wellFormed}
 use Rattle.pairs.proofs.VertexLaws.{order-in-range, order-tested}

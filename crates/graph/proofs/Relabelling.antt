@@ -7,10 +7,11 @@ use Rattle.laws.specs.UpTo.{wordUpTo}
 use Rattle.laws.specs.UpToLaws.{word-same}
 use Rattle.graph.specs.declared.Graph.{Graph}
 use Rattle.graph.specs.Graph.{entry, drawn, relabelled}
-use Rattle.rows.specs.Rows.{placed, mirrored}
+use Rattle.rows.specs.Rows.{mirrored}
+use Rattle.words.specs.Placed.{placed}
 use Rattle.graph.specs.WellFormed.{WellFormed}
 use Rattle.arrangements.specs.Arrangement.{at}
-use Rattle.rows.proofs.Placed.{placed-same}
+use Rattle.words.proofs.Placed.{placed-same}
 use Rattle.rows.proofs.Mirrored.{mirrored-itself}
 use Rattle.graph.proofs.Drawn.{edgeRow, unknownRow, drawn-entry, drawn-formed}
 

@@ -7,7 +7,8 @@ use Rattle.laws.specs.Compared.{by-below, by-order}
 use Rattle.laws.specs.Bit.{bit}
 use Rattle.laws.specs.BitLaws.{below-of-bits}
 use Rattle.graph.specs.declared.Graph.{Graph}
-use Rattle.rows.specs.Rows.{row, startAt}
+use Rattle.words.specs.Placed.{row}
+use Rattle.rows.specs.Rows.{startAt}
 use Rattle.graph.specs.Graph.{entry}
 use Rattle.graph.specs.WellFormed.{WellFormed}
 

@@ -10,7 +10,8 @@ use Rattle.laws.specs.Compared.{by-same}
 use Rattle.laws.specs.Bit.{bit, withBit}
 use Rattle.laws.specs.BitLaws.{withBit-same, withBit-other}
 use Rattle.graph.specs.declared.Graph.{Graph}
-use Rattle.rows.specs.Rows.{row, withMark}
+use Rattle.words.specs.Placed.{row}
+use Rattle.rows.specs.Rows.{withMark}
 use Rattle.graph.specs.Graph.{entry, withEntry}
 use Rattle.graph.specs.WellFormed.{WellFormed}
 use Rattle.graph.proofs.Rows.{formed-by}

@@ -2,7 +2,8 @@
 use Prim.Native.Nat.{ℕ, _/_, _%_}
 use mathlib.Core.List.{List}
 use Rattle.laws.specs.UpTo.{wordUpTo}
-use Rattle.rows.specs.Rows.{entryIn, withMark, placed, mirrored}
+use Rattle.words.specs.Placed.{placed}
+use Rattle.rows.specs.Rows.{entryIn, withMark, mirrored}
 use Rattle.arrangements.specs.Arrangement.{at}
 use Rattle.graph.specs.declared.Graph.{Graph}
 

@@ -25,7 +25,7 @@ use Rattle.graph.specs.WellFormed.{WellFormed}
 use Rattle.arrangements.specs.Arrangement.{at, Reordering, Permitted}
 use Rattle.pairs.specs.Pairs.{Pair, pair, pairs, Between}
 use Rattle.graph.specs.Counts.{entryAt}
-use Rattle.rows.proofs.Placed.{same-places}
+use Rattle.words.proofs.Placed.{same-places}
 use Rattle.pairs.proofs.PairLaws.{pairs-given, pairs-has}
 use Rattle.judging.specs.Judging.{samePair, pairOfTwo, image, walkAll, literalsOf, clauseOf, padded}
 

@@ -20,7 +20,8 @@ use Rattle.walk.proofs.Clause.{literal-stands, clause-written}
 use Rattle.walk.proofs.Rising.{clause-rising, clause-bounded}
 use Rattle.walk.proofs.Broken.{walk-clause-breaks}
 use Rattle.graph.specs.declared.Graph.{Graph}
-use Rattle.rows.specs.Rows.{placed, mirrored}
+use Rattle.words.specs.Placed.{placed}
+use Rattle.rows.specs.Rows.{mirrored}
 use Rattle.graph.specs.Graph.{drawn}
 use Rattle.arrangements.specs.Arrangement.{Reordering}
 use Rattle.composing.specs.Composed.{placeOf, inverse}

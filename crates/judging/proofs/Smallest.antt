@@ -18,7 +18,7 @@ use Rattle.composing.specs.Composed.{composed}
 use Rattle.pairs.specs.Pairs.{Pair, pairs, pairCount}
 use Rattle.graph.specs.Counts.{entryAt}
 use Rattle.judging.specs.Order.{EarlierGraph, matrixWord, FullyDrawn}
-use Rattle.rows.proofs.Placed.{placed-at}
+use Rattle.words.proofs.Placed.{placed-at}
 use Rattle.graph.proofs.Drawn.{same-graph}
 use Rattle.composing.proofs.Composing.{identity, identity-permitted, composed-at, composed-permitted}
 use Rattle.graph.proofs.Relabelling.{relabelled-order, relabelled-starts, relabelled-entry, relabelled-formed}

@@ -13,7 +13,8 @@ use Rattle.laws.specs.Compared.{by-below, by-same}
 use Rattle.laws.specs.Bit.{bit}
 use Rattle.laws.specs.BitLaws.{bits-past, below-of-bits, bit-of-and, bit-of-or, bit-of-power}
 use Rattle.laws.specs.Masks.{bit-of-without}
-use Rattle.rows.specs.Rows.{row, entryIn}
+use Rattle.rows.specs.Rows.{entryIn}
+use Rattle.words.specs.Placed.{row}
 use Rattle.arrangements.specs.Arrangement.{at, Reordering, isReordering}
 use Rattle.composing.specs.Composed.{inverse}
 use Rattle.pairs.specs.Pairs.{Pair, pair}

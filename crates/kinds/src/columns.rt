@@ -4,7 +4,7 @@ ghost use Rattle.arrangements.specs.Arrangement.{at};
 ghost use Rattle.pairs.specs.Pairs.{pair};
 ghost use Rattle.turns.specs.Turns.{Within};
 ghost use Rattle.kinds.specs.Kinds.{kindAt, FirstIn, Before, Firsts, Sources, Ahead};
-use rows::words::without;
+use words::without;
 use turns::path::weight_of;
 use turns::walked::edges_of;
 use turns::walked::marks_of;

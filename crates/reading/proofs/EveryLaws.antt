@@ -1,57 +1,23 @@
--- Every second bit of a number, gathered from the lowest on: the words of a row from the number of its entries.
+-- The words of a row from every second bit of the number of its entries.
 use Prim.Native.Nat.{ℕ, suc, _+_, _-_, _*_, _/_, _%_, _^_, _≤_, _<_}
-use mathlib.Core.Path.{_≡_, refl, sym, ap, _∙_}
-use native.Mathlib.Nat.{div-one, lt-of-lt-of-le, mod-eq-of-lt, mul-le-mul-right, suc-mul}
-use native.Mathlib.Numerals.{add-one}
+use mathlib.Core.Path.{_≡_, sym, ap, _∙_}
+use native.Mathlib.Nat.{lt-of-lt-of-le, mod-eq-of-lt, mul-le-mul-right, suc-mul}
 use native.Mathlib.Omega.{arith}
-use lib.Pow.{pow-add, pow-mono, pow-pos, shr-shr}
-use mir.Syntax.{w32, w64}
+use lib.Pow.{pow-add, pow-mono, pow-pos}
+use mir.Syntax.{w32}
 use mir.Val.{Fits}
-use Rattle.laws.specs.Num.{num, num-below}
-use Rattle.reading.specs.Lines.{every, LineFrom}
+use Rattle.laws.specs.BitLaws.{bit-of-half}
+use Rattle.laws.specs.Num.{num, num-below, num-same, num-top}
+use Rattle.numbers.specs.Gathered.{every}
+use Rattle.reading.specs.Lines.{LineFrom}
 
 pub every-small : (d x k : ℕ) → every d x k < 2
 unfolding every
 every-small d x k = omega arith
 
--- none at first
-pub every-starts : (d x : ℕ) → 0 ≡ num (every d x) 0 0
-unfolding num
-every-starts d x = refl
-
-pub left-starts : (x : ℕ) → x ≡ x / 2 ^ (2 * 0)
-left-starts x = omega arith
-
--- one entry more
-one-more : (d x t w left : ℕ) → w ≡ num (every d x) 0 t → left ≡ x / 2 ^ (2 * t) → 2 * w + left / 2 ^ d % 2 ≡ num (every d x) 0 (t + 1)
-unfolding num every
-one-more d x t w left is-w is-left =
-    let e : 2 * (0 + t) + d ≡ 2 * t + d = omega arith in
-    rw (add-one t, is-w, is-left, e) (ap (λ (y : ℕ). 2 * num (every d x) 0 t + y % 2) (shr-shr x (2 * t) d))
-
-pub even-more : (x t w left : ℕ) → w ≡ num (every 0 x) 0 t → left ≡ x / 2 ^ (2 * t) → 2 * w + left % 2 ≡ num (every 0 x) 0 (t + 1)
-even-more x t w left is-w is-left = ap (λ (y : ℕ). 2 * w + y % 2) (sym (div-one left)) ∙ one-more 0 x t w left is-w is-left
-
-pub odd-more : (x t w left : ℕ) → w ≡ num (every 1 x) 0 t → left ≡ x / 2 ^ (2 * t) → 2 * w + left / 2 % 2 ≡ num (every 1 x) 0 (t + 1)
-odd-more x t w left is-w is-left = one-more 1 x t w left is-w is-left
-
-pub left-on : (x t left : ℕ) → left ≡ x / 2 ^ (2 * t) → left / 4 ≡ x / 2 ^ (2 * (t + 1))
-left-on x t left is-left =
-    let e : 2 * (t + 1) ≡ 2 * t + 2 = omega arith in
-    rw (e, is-left) (shr-shr x (2 * t) 2)
-
 -- so many bits are below a power
 every-below : (d x t : ℕ) → num (every d x) 0 t < 2 ^ t
 every-below d x t = num-below (every d x) (every-small d x) 0 t
-
--- which fits
-pub every-fits : (d x t w n i : ℕ) → w ≡ num (every d x) 0 t → t < n - i → n ≤ 32 → Fits w64 (2 * w)
-every-fits d x t w n i is-w l h =
-    record { fits = omega (arith, is-w, every-below d x t, pow-mono {i = t} {j = 31} (omega arith)) }
-
-pub more-fits : (d x t w b n i : ℕ) → w ≡ num (every d x) 0 t → t < n - i → n ≤ 32 → Fits w64 (2 * w + b % 2)
-more-fits d x t w b n i is-w l h =
-    record { fits = omega (arith, is-w, every-below d x t, pow-mono {i = t} {j = 31} (omega arith)) }
 
 -- moved up by i bits there are t + i
 pub moved-below : (d x t i : ℕ) → num (every d x) 0 t * 2 ^ i < 2 ^ (t + i)
@@ -63,15 +29,38 @@ moved-is : (d x t i w : ℕ) → w ≡ num (every d x) 0 t → t + i ≤ 32 → 
 moved-is d x t i w is-w h =
     rw is-w (mod-eq-of-lt (omega (arith, moved-below d x t i, pow-mono {j = 32} h)))
 
-pub moved-fits : (d x t i w n : ℕ) → w ≡ num (every d x) 0 t → t ≤ n - i → i ≤ n → n ≤ 32 → Fits w32 (w * 2 ^ i % 2 ^ 64)
-moved-fits d x t i w n is-w l h s =
-    record { fits = rw (moved-is d x t i w is-w (omega arith)) (lt-of-lt-of-le (moved-below d x t i) (pow-mono {j = 32} (omega arith))) }
+-- ---- of the gathered bits only as many as there are entries
 
-pub line-moved : (x t i u e n : ℕ) → u ≡ num (every 1 x) 0 t → e ≡ num (every 0 x) 0 t → t ≤ n - i → n - i ≤ t → i ≤ n → n ≤ 32
-    → LineFrom x (n - i) i (record { unknowns = u * 2 ^ i % 2 ^ 64; edges = e * 2 ^ i % 2 ^ 64 })
-line-moved x t i u e n is-u is-e l m h s =
-    let q : t ≡ n - i = omega arith in
+even-part : (x t w : ℕ) → t ≤ 32 → w ≡ num (every 0 x) 0 32 → w / 2 ^ (32 - t) ≡ num (every 0 x) 0 t
+even-part x t w h is-w =
+    let e : 32 ≡ t + (32 - t) = omega arith in
+    ap (λ (y : ℕ). y / 2 ^ (32 - t)) (is-w ∙ ap (num (every 0 x) 0) e) ∙ num-top (every 0 x) (every-small 0 x) 0 t (32 - t)
+
+-- the odd bits are the even ones of half the number
+odd-part : (x t w : ℕ) → t ≤ 32 → w ≡ num (every 0 (x / 2)) 0 32 → w / 2 ^ (32 - t) ≡ num (every 1 x) 0 t
+unfolding every
+odd-part x t w h is-w =
+    even-part (x / 2) t w h is-w
+    ∙ num-same (every 0 (x / 2)) (every 1 x) 0 0 t
+    (λ k l. let a : 2 * (0 + k) + 0 ≡ 2 * k = omega arith in
+    let b : 2 * (0 + k) + 1 ≡ suc (2 * k) = omega arith in
+    rw (a, b) (sym (bit-of-half x (2 * k))))
+
+module _ (x n i w : ℕ) (high : i ≤ n) (short : n ≤ 32) where
+  moved-fits : (d : ℕ) → w / 2 ^ (32 - (n - i)) ≡ num (every d x) 0 (n - i) → Fits w32 (w / 2 ^ (32 - (n - i)) * 2 ^ i % 2 ^ 64)
+  moved-fits d is-w =
+      record { fits = rw (moved-is d x (n - i) i (w / 2 ^ (32 - (n - i))) is-w (omega arith)) (lt-of-lt-of-le (moved-below d x (n - i) i) (pow-mono {j = 32} (omega arith))) }
+
+  pub edges-fit : w ≡ num (every 0 x) 0 32 → Fits w32 (w / 2 ^ (32 - (n - i)) * 2 ^ i % 2 ^ 64)
+  edges-fit is-w = moved-fits 0 (even-part x (n - i) w (omega arith) is-w)
+
+  pub unknowns-fit : w ≡ num (every 0 (x / 2)) 0 32 → Fits w32 (w / 2 ^ (32 - (n - i)) * 2 ^ i % 2 ^ 64)
+  unknowns-fit is-w = moved-fits 1 (odd-part x (n - i) w (omega arith) is-w)
+
+pub line-made : (x n i u e : ℕ) → i ≤ n → n ≤ 32 → u ≡ num (every 0 (x / 2)) 0 32 → e ≡ num (every 0 x) 0 32
+    → LineFrom x (n - i) i (record { unknowns = u / 2 ^ (32 - (n - i)) * 2 ^ i % 2 ^ 64; edges = e / 2 ^ (32 - (n - i)) * 2 ^ i % 2 ^ 64 })
+line-made x n i u e high short is-u is-e =
     record {
-      unknowns = moved-is 1 x t i u is-u (omega arith) ∙ ap (λ (y : ℕ). num (every 1 x) 0 y * 2 ^ i) q;
-      edges = moved-is 0 x t i e is-e (omega arith) ∙ ap (λ (y : ℕ). num (every 0 x) 0 y * 2 ^ i) q;
+      unknowns = moved-is 1 x (n - i) i (u / 2 ^ (32 - (n - i))) (odd-part x (n - i) u (omega arith) is-u) (omega arith);
+      edges = moved-is 0 x (n - i) i (e / 2 ^ (32 - (n - i))) (even-part x (n - i) e (omega arith) is-e) (omega arith);
     }

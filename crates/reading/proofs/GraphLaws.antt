@@ -10,10 +10,11 @@ use Rattle.laws.specs.UpTo.{wordUpTo}
 use Rattle.laws.specs.UpToLaws.{word-same}
 use Rattle.laws.specs.Num.{num}
 use Rattle.pairs.specs.Pairs.{number}
-use Rattle.rows.specs.Rows.{placed, mirrored}
-use Rattle.rows.specs.Stage.{inBothHalves}
+use Rattle.words.specs.Placed.{placed}
+use Rattle.rows.specs.Rows.{mirrored}
+use Rattle.words.specs.Stage.{inBothHalves}
 use Rattle.rows.proofs.Halves.{both-halves}
-use Rattle.rows.proofs.Placed.{placed-same}
+use Rattle.words.proofs.Placed.{placed-same}
 use Rattle.graph.specs.Graph.{drawn}
 use Rattle.fields.specs.Bits.{bitOf}
 use Rattle.fields.proofs.BitLaws.{bit-small}

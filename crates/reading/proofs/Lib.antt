@@ -1,4 +1,3 @@
-pub mod WordLaws
 pub mod PartLaws
 pub mod EveryLaws
 pub mod LineLaws

@@ -13,16 +13,17 @@ use Rattle.laws.specs.UpTo.{wordUpTo}
 use Rattle.laws.specs.UpToLaws.{word-below, word-bit}
 use Rattle.laws.specs.Num.{num, num-bit}
 use Rattle.pairs.specs.Pairs.{number}
-use Rattle.rows.specs.Rows.{placed}
-use Rattle.rows.specs.Stage.{above}
-use Rattle.rows.proofs.Filled.{placed-starts, placed-turns, placed-done}
-use Rattle.rows.proofs.Placed.{placed-length}
+use Rattle.words.specs.Placed.{placed}
+use Rattle.words.specs.Stage.{above}
+use Rattle.words.proofs.Filled.{placed-starts, placed-turns, placed-done}
+use Rattle.words.proofs.Placed.{placed-length}
 use Rattle.rows.proofs.Halves.{above-there, above-elsewhere, above-small}
 use Rattle.fields.specs.Bits.{bitOf}
 use Rattle.fields.proofs.BitLaws.{bit-small}
 use Rattle.record.specs.Layout.{entryPlace, cell}
 use Rattle.reading.specs.declared.lines.Line.{Line}
-use Rattle.reading.specs.Lines.{markIn, lineIn, linesIn, every, LineFrom}
+use Rattle.numbers.specs.Gathered.{every}
+use Rattle.reading.specs.Lines.{markIn, lineIn, linesIn, LineFrom}
 use Rattle.reading.proofs.EveryLaws.{every-small, moved-below}
 
 -- the number stands where the row starts

@@ -21,7 +21,7 @@ use Rattle.fields.specs.Bits.{bitOf}
 use Rattle.fields.proofs.BitLaws.{bit-small}
 use Rattle.record.specs.Layout.{entryPlace}
 use Rattle.record.specs.Reading.{numberedIn, isRefused, refusedIn}
-use Rattle.reading.specs.Lines.{every}
+use Rattle.numbers.specs.Gathered.{every}
 use Rattle.reading.specs.Refused.{NoneUpTo}
 
 -- where the entries of so many pairs after the first m stand

@@ -8,8 +8,9 @@ use Rattle.laws.specs.Bit.{bit}
 use Rattle.laws.specs.UpTo.{wordUpTo}
 use Rattle.laws.specs.Num.{num}
 use Rattle.pairs.specs.Pairs.{number}
-use Rattle.rows.specs.Rows.{placed}
-use Rattle.rows.specs.Stage.{above}
+use Rattle.words.specs.Placed.{placed}
+use Rattle.words.specs.Stage.{above}
+use Rattle.numbers.specs.Gathered.{every}
 use Rattle.record.specs.Layout.{entryPlace}
 use Rattle.reading.specs.declared.lines.Line.{Line}
 
@@ -26,10 +27,6 @@ unfoldable pub linesIn : (ℕ → ℕ) → ℕ → ℕ → List ℕ
 linesIn f n d = placed (lineIn f n d) n
 
 -- ---- a row from the number of its entries
-
--- every second bit of x: the even ones, d = 0, or the odd ones, d = 1
-unfoldable pub every : ℕ → ℕ → ℕ → ℕ
-every d x k = bit x (2 * k + d)
 
 -- r has the odd and the even bits of the m entries that x holds, the last entry's first, from bit i on
 pub record LineFrom (x m i : ℕ) (r : Line) : Type 0 where

@@ -1,5 +1,4 @@
 // Reading records: how many bytes one takes, its graph, and the bytes that follow it.
-mod bits;
 mod lines;
 mod parts;
 mod refused;
@@ -13,7 +12,7 @@ use record::Extent;
 use record::Record;
 use record::size;
 use refused::first_refused;
-use rows::turned::mirror;
+use words::turned::mirror;
 ghost use mathlib.Core.Path.{_≡_};
 ghost use Prim.Native.Nat.{_≤_};
 ghost use lib.ListN.{length};

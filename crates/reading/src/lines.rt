@@ -6,7 +6,8 @@ ghost use Rattle.laws.specs.Num.{num};
 ghost use Rattle.fields.specs.Bits.{bitOf};
 ghost use Rattle.record.specs.Layout.{cell};
 ghost use Rattle.reading.specs.Lines.{linesIn, LineFrom};
-use crate::bits::bits_at;
+use numbers::bits_at;
+use numbers::gathered::gathered;
 use record::layout::line_place;
 
 // A word of unknowns and one of edges.
@@ -28,20 +29,10 @@ pub fn line_from(entries: u64, order: u32, i: u32) -> Line
     requires { ⌜ (i ≤ order) × (order ≤ 32) ⌝ }
     ensures { λ r. ⌜ LineFrom entries (order - i) i r ⌝ }
 {
-    let count = order - i;
-    let mut left = entries;
-    let mut unknowns = 0u64;
-    let mut edges = 0u64;
-    let mut t = 0;
-    while t < count {
-        edges = 2 * edges + left % 2;
-        unknowns = 2 * unknowns + left / 2 % 2;
-        left = left / 4;
-        t += 1;
-    }
+    let spare = 32 - (order - i);
     Line {
-        unknowns: (unknowns << i) as u32,
-        edges: (edges << i) as u32,
+        unknowns: ((gathered(entries / 2) >> spare) << i) as u32,
+        edges: ((gathered(entries) >> spare) << i) as u32,
     }
 }
 

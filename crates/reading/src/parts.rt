@@ -4,12 +4,12 @@ ghost use Prim.Native.Nat.{_≤_, _<_};
 ghost use Rattle.fields.specs.Bits.{bitOf};
 ghost use Rattle.record.specs.Reading.{orderIn, startsIn, padIn};
 ghost use Rattle.reading.specs.Lines.{startBy};
-use crate::bits::bits_at;
-use crate::bits::byte_at;
+use numbers::bits_at;
+use numbers::byte_at;
 use record::layout::bit_count;
 use record::layout::byte_count;
-use rows::words::limit_of;
-use rows::words::weight;
+use words::limit_of;
+use words::weight;
 
 // The order.
 pub fn order_of(bytes: &[u8]) -> u32

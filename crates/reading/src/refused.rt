@@ -6,7 +6,7 @@ ghost use Rattle.fields.specs.Bits.{bitOf};
 ghost use Rattle.record.specs.Layout.{entryPlace};
 ghost use Rattle.record.specs.Reading.{refusedIn};
 ghost use Rattle.reading.specs.Refused.{NoneUpTo};
-use crate::bits::bits_at;
+use numbers::bits_at;
 use pairs::pair_count;
 
 // As many as are left, up to 31.

@@ -10,7 +10,7 @@ use borrow.Author.Tests.{eq-eqb, eqb-true}
 use Rattle.laws.specs.Test.{both, pick}
 use Rattle.laws.specs.TestLaws.{both-first, both-second, both-hold, same-test}
 use Rattle.laws.specs.UpTo.{allUpTo}
-use Rattle.rows.specs.Rows.{row}
+use Rattle.words.specs.Placed.{row}
 use Rattle.rows.specs.Standing.{fault, rowFault, rowStands}
 use Rattle.rows.proofs.Standing.{or-none}
 

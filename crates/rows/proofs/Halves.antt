@@ -14,11 +14,12 @@ use Rattle.laws.specs.UpTo.{wordUpTo}
 use Rattle.laws.specs.UpToLaws.{word-below, word-bit, word-past}
 use Rattle.laws.specs.Bit.{bit}
 use Rattle.laws.specs.BitLaws.{bit-of-or, bit-of-zero, same-word}
-use Rattle.rows.specs.Rows.{row, placed, mirrored}
-use Rattle.rows.specs.Stage.{transposed, above, inBothHalves}
+use Rattle.words.specs.Placed.{row, placed}
+use Rattle.rows.specs.Rows.{mirrored}
+use Rattle.words.specs.Stage.{transposed, above, inBothHalves}
 use Rattle.rows.proofs.Mirrored.{mirrored-above, mirrored-below, mirrored-loop, mirrored-small}
-use Rattle.rows.proofs.Placed.{placed-length, placed-at, placed-past, placed-of}
-use Rattle.rows.proofs.Standing.{transposed-below, turned}
+use Rattle.words.proofs.Placed.{placed-length, placed-at, placed-past, placed-of}
+use Rattle.words.proofs.TurnedRows.{transposed-below, turned}
 
 -- above the diagonal
 pub above-there : (e : ℕ → ℕ → ℕ) (i j : ℕ) → i < j → above e i j ≡ e i j

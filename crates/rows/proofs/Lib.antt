@@ -1,11 +1,6 @@
-pub mod Placed
 pub mod Mirrored
-pub mod Filled
-pub mod CodeWords
+pub mod CodeEntries
 pub mod CodeFits
-pub mod CodeStages
-pub mod StageLaws
-pub mod Transposing
-pub mod CodeStanding
 pub mod Standing
+pub mod CodeStanding
 pub mod Halves

@@ -5,7 +5,8 @@ use mathlib.Core.List.{List}
 use lib.Dec.{leb, ltb, eqb}
 use Rattle.laws.specs.Test.{both, pick}
 use Rattle.laws.specs.UpTo.{allUpTo}
-use Rattle.rows.specs.Rows.{row, entryIn, startAt}
+use Rattle.words.specs.Placed.{row}
+use Rattle.rows.specs.Rows.{entryIn, startAt}
 
 -- the entries at (i, j) and (j, i) agree, and no entry is both known and unknown
 unfoldable pub pairFits : List ℕ → List ℕ → ℕ → ℕ → Bool

@@ -1,4 +1,3 @@
 pub mod Rows
 pub mod Fits
-pub mod Stage
 pub mod Standing

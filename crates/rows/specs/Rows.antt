@@ -1,16 +1,13 @@
--- Rows of words: the row of vertex i stands at index i - 1, and vertex j is bit j - 1 of it. Block starts are one word.
+-- Rows of words: vertex j is bit j - 1 of a row. Block starts are one word.
 use Prim.Native.Nat.{ℕ, _+_, _-_, _*_}
-use mathlib.Core.List.{List, _++_}
-use lib.ListN.{getD, set, replicate}
+use mathlib.Core.List.{List}
+use lib.ListN.{set}
 use lib.Count.{ones}
 use lib.Dec.{ltb}
 use Rattle.laws.specs.Test.{pick}
 use Rattle.laws.specs.Bit.{bit, withBit}
-use Rattle.laws.specs.UpTo.{sumUpTo, listUpTo}
-
--- the row mask of vertex i
-abbrev pub row : List ℕ → ℕ → ℕ
-row rows i = getD rows (i - 1) 0
+use Rattle.laws.specs.UpTo.{sumUpTo}
+use Rattle.words.specs.Placed.{row}
 
 -- how many vertices row i marks
 unfoldable pub onesAt : List ℕ → ℕ → ℕ
@@ -23,10 +20,6 @@ entryIn edges unknowns i j = bit (row edges i) (j - 1) + 2 * bit (row unknowns i
 -- rows with both symmetric bits of (i, j) made b
 unfoldable pub withMark : List ℕ → ℕ → ℕ → ℕ → List ℕ
 withMark rows i j b = set (set rows (i - 1) (withBit (row rows i) (j - 1) b)) (j - 1) (withBit (row rows j) (i - 1) b)
-
--- f 1, .., f n, and zeros up to place 32
-unfoldable pub placed : (ℕ → ℕ) → ℕ → List ℕ
-placed f n = listUpTo f n ++ replicate (32 - n) 0
 
 -- the entry at (i, j) where e gives those with i < j
 unfoldable pub mirrored : (ℕ → ℕ → ℕ) → ℕ → ℕ → ℕ

@@ -5,7 +5,7 @@ use mathlib.Core.List.{List}
 use lib.Dec.{leb, eqb}
 use lib.Bits.{bitAnd, bitOr, bitXor}
 use Rattle.laws.specs.Test.{pick}
-use Rattle.rows.specs.Rows.{row}
+use Rattle.words.specs.Placed.{row}
 
 -- the bits in which the words e and u are not f and v, that both have, that stand on the diagonal, or that lie outside
 unfoldable pub fault : ℕ → ℕ → ℕ → ℕ → ℕ → ℕ → ℕ

@@ -6,7 +6,7 @@ ghost use lib.Count.{ones};
 ghost use lib.ListN.{length};
 ghost use Rattle.laws.specs.UpTo.{sumUpTo};
 ghost use Rattle.rows.specs.Rows.{entryIn, withMark, onesAt};
-use crate::words::with_bit;
+use words::with_bit;
 
 // The entry of the rows at (i, j).
 pub fn entry_in<'a>(edges: &'a [u32; 32], unknowns: &'a [u32; 32], i: u32, j: u32) -> u32

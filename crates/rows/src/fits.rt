@@ -6,11 +6,11 @@ ghost use Rattle.laws.specs.UpTo.{allUpTo};
 ghost use Rattle.laws.specs.Test.{pick};
 ghost use Rattle.rows.specs.Fits.{rowFits, startsFit};
 ghost use Rattle.rows.specs.Standing.{fault, rowFault, rowStands};
-use crate::turned::transposed_of;
-use crate::words::limit_of;
-use crate::words::power;
-use crate::words::wide;
-use crate::words::without;
+use words::limit_of;
+use words::power;
+use words::turned::transposed_of;
+use words::wide;
+use words::without;
 
 // What row i is a part of: the vertices up to the order, and none past it.
 fn row_limit(order: u32, i: u32) -> u32

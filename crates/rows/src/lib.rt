@@ -1,6 +1,4 @@
-// Rows of 32 words, and words of 32 bits: what a graph's code needs before there is a graph value.
+// Rows of 32 words: what a graph's code needs before there is a graph value.
 // For the crates of this project; a caller has checked what a function asks of it.
 pub mod entries;
 pub mod fits;
-pub mod turned;
-pub mod words;

@@ -14,7 +14,7 @@ use Rattle.laws.specs.BitLaws.{bit-of-zero, bit-of-and, bit-of-power-other}
 use Rattle.laws.specs.Masks.{bit-of-without}
 use Rattle.laws.specs.UpTo.{wordUpTo}
 use Rattle.laws.specs.UpToLaws.{word-bit}
-use Rattle.rows.specs.Rows.{row}
+use Rattle.words.specs.Placed.{row}
 use Rattle.arrangements.specs.Arrangement.{at}
 use Rattle.pairs.specs.Pairs.{Pair, pair, alongRow}
 use Rattle.turns.specs.Turns.{allMarks, marksOf, turnAt, walkCode, Arranged, Later, Alike}

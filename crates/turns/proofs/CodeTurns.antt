@@ -8,7 +8,7 @@ use lib.Dec.{eqb}
 use borrow.Author.Tests.{eq-eqb, ne-eqb, lt-ltb, le-ltb}
 use Rattle.laws.specs.Test.{both, pick}
 use Rattle.laws.specs.Bit.{bit}
-use Rattle.rows.specs.Rows.{row}
+use Rattle.words.specs.Placed.{row}
 use Rattle.arrangements.specs.Arrangement.{at}
 use Rattle.pairs.specs.Pairs.{Pair, pair, alongRow, fromRow}
 use Rattle.pairs.proofs.PairLaws.{fromRow-split}

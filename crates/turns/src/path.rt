@@ -1,7 +1,7 @@
 // A vertex as a place of a path holds it.
 ghost use mathlib.Core.Path.{_≡_};
 ghost use Prim.Native.Nat.{_+_, _-_, _^_, _≤_, _<_};
-use rows::words::power;
+use words::power;
 
 // A place of the path as it is stored: the vertex at bit v.
 pub fn stored(v: u32) -> u8

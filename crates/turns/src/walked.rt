@@ -3,14 +3,14 @@ ghost use mathlib.Core.Path.{_≡_};
 ghost use mathlib.Core.Bool.{true};
 ghost use Prim.Native.Nat.{_+_, _-_, _^_, _≤_, _<_};
 ghost use lib.Bits.{bitAnd};
-ghost use Rattle.rows.specs.Rows.{row};
+ghost use Rattle.words.specs.Placed.{row};
 ghost use Rattle.arrangements.specs.Arrangement.{at};
 ghost use Rattle.pairs.specs.Pairs.{pair, alongRow, fromRow};
 ghost use Rattle.judging.specs.Judging.{samePair, pairOfTwo};
 ghost use Rattle.turns.specs.Turns.{marksOf, turnBy, turnAt, walkCode, Within, Arranged, Later, Alike};
 use arrangements::places::vertex_at;
-use rows::words::power;
-use rows::words::without;
+use words::power;
+use words::without;
 
 // The edges of row i.
 pub fn edges_of(edges: &[u32; 32], i: u32) -> u32

@@ -16,7 +16,8 @@ use Rattle.beginnings.specs.Search.{whereOpen, subtree, subtrees, reached, onWo
 use Rattle.beginnings.specs.Certificate.{withFirst, completed}
 use Rattle.pairs.specs.Vertices.{orderFits}
 use Rattle.pairs.specs.Pairs.{alongRow, fromRow, pairs, pairCount, number}
-use Rattle.rows.specs.Rows.{placed, mirrored}
+use Rattle.rows.specs.Rows.{mirrored}
+use Rattle.words.specs.Placed.{placed}
 use Rattle.rows.specs.Fits.{pairFits, rowFits, startsFit}
 use Rattle.graph.specs.declared.Graph.{Graph}
 use Rattle.graph.specs.Graph.{drawn}

@@ -1,5 +1,4 @@
 pub mod Buffer
-pub mod CodePen
 pub mod Reached
 pub mod PutLaws
 pub mod WriteCases

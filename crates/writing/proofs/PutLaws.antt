@@ -23,12 +23,12 @@ use Rattle.record.specs.Reading.{orderIn, numberedIn}
 use Rattle.record.specs.Writing.{recordBit, recordByte, recordOf}
 use Rattle.record.proofs.RecordBits.{order-held, start-held, entry-held, pad-held, bits-in-bytes}
 use Rattle.record.proofs.WriteLaws.{record-bit-small}
-use Rattle.writing.specs.declared.pen.Pen.{Pen}
-use Rattle.writing.specs.Pushed.{stored, IsPushed}
+use Rattle.pen.specs.declared.Pen.{Pen}
+use Rattle.pen.specs.Pushed.{stored, IsPushed}
 use Rattle.writing.specs.Along.{along}
 use Rattle.writing.specs.Reached.{Reached}
 use Rattle.writing.proofs.Buffer.{filled-starts}
-use Rattle.writing.proofs.CodePen.{pen}
+use Rattle.pen.proofs.CodePen.{pen}
 use Rattle.writing.proofs.Reached.{kept-small, stored-filled, pushes, from-here, joined}
 
 -- ---- places

@@ -18,10 +18,10 @@ use Rattle.graph.specs.declared.Graph.{Graph}
 use Rattle.record.specs.Writing.{recordBit, recordByte}
 use Rattle.record.proofs.WriteLaws.{record-bit-small}
 use Rattle.writing.proofs.Buffer.{filled-turns}
-use Rattle.writing.proofs.CodePen.{stored-long}
-use Rattle.writing.specs.declared.pen.Pen.{Pen}
+use Rattle.pen.proofs.CodePen.{stored-long}
+use Rattle.pen.specs.declared.Pen.{Pen}
 use Rattle.writing.specs.Reached.{Reached}
-use Rattle.writing.specs.Pushed.{stored, IsPushed, full, among}
+use Rattle.pen.specs.Pushed.{stored, IsPushed, full, among}
 
 -- so many bits are below a power
 pub kept-small : (g : Graph) (d o : List ℕ) (p : Pen) (place : ℕ) → Reached g d o p place → p .kept < 2 ^ p .have

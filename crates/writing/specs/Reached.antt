@@ -8,7 +8,7 @@ use Rattle.laws.specs.Num.{num}
 use Rattle.graph.specs.declared.Graph.{Graph}
 use Rattle.record.specs.Layout.{byteCount}
 use Rattle.record.specs.Writing.{recordBit, recordByte}
-use Rattle.writing.specs.declared.pen.Pen.{Pen}
+use Rattle.pen.specs.declared.Pen.{Pen}
 
 -- the bits before a place are stored in o, which was d, or wait in the pen p
 pub record Reached (g : Graph) (d o : List ℕ) (p : Pen) (place : ℕ) : Type 0 where

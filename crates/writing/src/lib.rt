@@ -1,5 +1,4 @@
 // Writing the record of a graph.
-mod pen;
 mod put;
 
 use graph::Graph;

@@ -11,11 +11,11 @@ ghost use Rattle.record.specs.Layout.{bitCount, byteCount, cell};
 ghost use Rattle.record.specs.Writing.{recordOf};
 ghost use Rattle.writing.specs.Reached.{Reached};
 ghost use Rattle.writing.specs.Along.{along};
-use crate::pen::Pen;
-use crate::pen::push;
-use crate::pen::store;
 use graph::Graph;
-use rows::words::wide;
+use pen::Pen;
+use pen::push;
+use pen::store;
+use words::wide;
 
 // 1 where vertex v starts a block.
 fn start_of(starts: u32, v: u32) -> u64

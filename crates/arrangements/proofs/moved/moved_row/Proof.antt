@@ -3,7 +3,7 @@ use Prim.Native.Nat.{_-_, _≤_, _<_, _^_}
 use mathlib.Core.Path.{_≡_}
 use Rattle.laws.specs.UpTo.{wordUpTo}
 use Rattle.laws.specs.Loops.{word-starts}
-use Rattle.rows.specs.Rows.{row as rowOf}
+use Rattle.words.specs.Placed.{row as rowOf}
 use Rattle.arrangements.specs.Arrangement.{at, movedBit}
 use Rattle.arrangements.proofs.CodePlaces.{row-of-place, moved-turns, moved-done, bit-grows, bit-fits}
 use Rattle.arrangements.proofs.moved.moved_row.Statement.{statement}

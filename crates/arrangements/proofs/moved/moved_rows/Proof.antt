@@ -1,9 +1,9 @@
 use borrow.Author.Needs.{needs}
 use Prim.Native.Nat.{_-_, _≤_}
 use mathlib.Core.Path.{_≡_}
-use Rattle.rows.specs.Rows.{placed}
+use Rattle.words.specs.Placed.{placed}
 use Rattle.arrangements.specs.Arrangement.{movedRow}
-use Rattle.rows.proofs.Filled.{placed-starts, placed-turns, placed-done}
+use Rattle.words.proofs.Filled.{placed-starts, placed-turns, placed-done}
 use Rattle.arrangements.proofs.moved.moved_rows.Statement.{statement}
 use Rattle.arrangements.proofs.moved.moved_rows.Tie as tie
 

@@ -1,9 +1,9 @@
 use borrow.Author.Needs.{needs}
 use Prim.Native.Nat.{_-_, _≤_}
 use mathlib.Core.Path.{_≡_}
-use Rattle.rows.specs.Rows.{placed}
+use Rattle.words.specs.Placed.{placed}
 use Rattle.composing.specs.Composed.{through}
-use Rattle.rows.proofs.Filled.{placed-starts, placed-turns}
+use Rattle.words.proofs.Filled.{placed-starts, placed-turns}
 use Rattle.composing.proofs.CodeComposed.{composed-done}
 use Rattle.composing.proofs.composed.composed_of.Statement.{statement}
 use Rattle.composing.proofs.composed.composed_of.Tie as tie

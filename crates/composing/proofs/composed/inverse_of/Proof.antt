@@ -1,7 +1,7 @@
 use borrow.Author.Needs.{needs}
 use Prim.Native.Nat.{_-_, _≤_}
 use mathlib.Core.Path.{_≡_}
-use Rattle.rows.specs.Rows.{placed}
+use Rattle.words.specs.Placed.{placed}
 use Rattle.composing.specs.Composed.{placeOf}
 use Rattle.composing.proofs.CodeComposed.{inverse-starts, inverse-turns, inverse-done}
 use Rattle.composing.proofs.composed.inverse_of.Statement.{statement}

@@ -1,8 +1,9 @@
 use borrow.Author.Needs.{needs}
 use Prim.Native.Nat.{_-_, _≤_}
 use mathlib.Core.Path.{_≡_}
-use Rattle.rows.specs.Rows.{blockOf, placed}
-use Rattle.rows.proofs.Filled.{placed-starts, placed-done}
+use Rattle.words.specs.Placed.{placed}
+use Rattle.rows.specs.Rows.{blockOf}
+use Rattle.words.proofs.Filled.{placed-starts, placed-done}
 use Rattle.exploring.specs.Masks.{blockMask, MaskOf}
 use Rattle.exploring.proofs.CodeMasks.{mask-first, mask-next, masks-more}
 use Rattle.exploring.proofs.masks.block_masks.Statement.{statement}

@@ -1,7 +1,7 @@
 -- After i turns the first i lines are there, and zeros.
 use Prim.Native.Nat.{_-_, _≤_}
 use mathlib.Core.Path.{_≡_}
-use Rattle.rows.specs.Rows.{placed}
+use Rattle.words.specs.Placed.{placed}
 use Rattle.fields.specs.Bits.{bitOf}
 use Rattle.reading.specs.Lines.{lineIn}
 use Rattle.reading.proofs.LineLaws.{lines-start, lines-room, unknowns-turn, edges-turn, lines-done}

@@ -1,78 +1,61 @@
--- After t turns the words have the last t entries.
-use Prim.Native.Nat.{_-_, _*_, _/_, _^_, _≤_}
-use mathlib.Core.Path.{_≡_}
+use Rattle.reading.proofs.EveryLaws.{edges-fit, unknowns-fit, line-made}
 use borrow.Author.Needs.{needs}
-use Rattle.laws.specs.Num.{num}
-use Rattle.reading.specs.Lines.{every}
-use Rattle.reading.proofs.EveryLaws.{every-starts, left-starts, even-more, odd-more, left-on, every-fits, more-fits, moved-fits, line-moved}
 use Rattle.reading.proofs.lines.line_from.Statement.{statement}
 use Rattle.reading.proofs.lines.line_from.Tie as tie
 
-abbrev Inv-loop : tie.InvT-loop
-Inv-loop entries order i count left₀ unknowns₀ edges₀ t₀ left unknowns edges t = (t ≤ count) × (left ≡ entries / 2 ^ (2 * t)) × (unknowns ≡ num (every 1 entries) 0 t) × (edges ≡ num (every 0 entries) 0 t)
+sub-spare : tie.Need-sub-spare
+sub-spare c = search needs
 
-abbrev μ-loop : tie.MeasureT-loop
-μ-loop entries order i count left₀ unknowns₀ edges₀ t₀ left unknowns edges t = count - t
+sub-spare-2 : tie.Need-sub-spare-2
+sub-spare-2 c = search needs
 
-sub-count : tie.Need-sub-count Inv-loop μ-loop
-sub-count c = search needs
+gathered-requires : tie.Need-gathered-requires
+gathered-requires c κs = search needs
 
-loop-holds : tie.Need-loop-holds Inv-loop μ-loop
-loop-holds c = search (every-starts, left-starts, needs)
+cast-t8 : tie.Need-cast-t8
+cast-t8 c = search needs
 
-mul-edges : tie.Need-mul-edges Inv-loop μ-loop
-mul-edges c = search (every-fits, needs)
+shr-t9 : tie.Need-shr-t9
+shr-t9 c = search needs
 
-add-edges : tie.Need-add-edges Inv-loop μ-loop
-add-edges c = search (more-fits, needs)
+shl-t11 : tie.Need-shl-t11
+shl-t11 c = search needs
 
-mul-unknowns : tie.Need-mul-unknowns Inv-loop μ-loop
-mul-unknowns c = search (every-fits, needs)
+cast-t5 : tie.Need-cast-t5
+cast-t5 c = search (unknowns-fit, needs)
 
-add-unknowns : tie.Need-add-unknowns Inv-loop μ-loop
-add-unknowns c = search (more-fits, needs)
+gathered-requires-2 : tie.Need-gathered-requires-2
+gathered-requires-2 c κs = search needs
 
-add-t : tie.Need-add-t Inv-loop μ-loop
-add-t c = search needs
+cast-t13 : tie.Need-cast-t13
+cast-t13 c = search needs
 
-loop-less : tie.Need-loop-less Inv-loop μ-loop
-loop-less c = search needs
+shr-t14 : tie.Need-shr-t14
+shr-t14 c = search needs
 
-loop-again : tie.Need-loop-again Inv-loop μ-loop
-loop-again c = search (even-more, odd-more, left-on, needs)
+shl-t16 : tie.Need-shl-t16
+shl-t16 c = search needs
 
-shl-t14 : tie.Need-shl-t14 Inv-loop μ-loop
-shl-t14 c = search needs
+cast-t17 : tie.Need-cast-t17
+cast-t17 c = search (edges-fit, needs)
 
-cast-t15 : tie.Need-cast-t15 Inv-loop μ-loop
-cast-t15 c = search (moved-fits, needs)
-
-shl-t17 : tie.Need-shl-t17 Inv-loop μ-loop
-shl-t17 c = search needs
-
-cast-t18 : tie.Need-cast-t18 Inv-loop μ-loop
-cast-t18 c = search (moved-fits, needs)
-
-returns : tie.Need-returns Inv-loop μ-loop
-returns c = search (line-moved, needs)
+returns : tie.Need-returns
+returns c = search (line-made, needs)
 
 pub line-from-spec : {M : Type 1} → statement M
 line-from-spec =
     tie.close
     (tie.spec
-    Inv-loop
-    μ-loop
-    sub-count
-    loop-holds
-    mul-edges
-    add-edges
-    mul-unknowns
-    add-unknowns
-    add-t
-    loop-less
-    loop-again
-    shl-t14
-    cast-t15
-    shl-t17
-    cast-t18
+    sub-spare
+    sub-spare-2
+    gathered-requires
+    cast-t8
+    shr-t9
+    shl-t11
+    cast-t5
+    gathered-requires-2
+    cast-t13
+    shr-t14
+    shl-t16
+    cast-t17
     returns)

@@ -1,5 +1,5 @@
 use borrow.Author.Needs.{needs}
-use Rattle.rows.proofs.CodeWords.{mark-is}
+use Rattle.rows.proofs.CodeEntries.{mark-is}
 use Rattle.rows.proofs.entries.mark.Statement.{statement}
 use Rattle.rows.proofs.entries.mark.Tie as tie
 

@@ -1,5 +1,5 @@
 use borrow.Author.Needs.{needs}
-use Rattle.rows.proofs.CodeWords.{ones-is}
+use Rattle.rows.proofs.CodeEntries.{ones-is}
 use Rattle.rows.proofs.entries.ones_at.Statement.{statement}
 use Rattle.rows.proofs.entries.ones_at.Tie as tie
 

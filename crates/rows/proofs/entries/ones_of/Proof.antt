@@ -1,5 +1,5 @@
 use borrow.Author.Needs.{needs}
-use Rattle.rows.proofs.CodeWords.{ones-small}
+use Rattle.rows.proofs.CodeEntries.{ones-small}
 use Rattle.rows.proofs.entries.ones_of.Statement.{statement}
 use Rattle.rows.proofs.entries.ones_of.Tie as tie
 

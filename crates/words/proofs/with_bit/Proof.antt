@@ -1,0 +1,26 @@
+use borrow.Author.Needs.{needs}
+use Rattle.words.proofs.CodeWords.{bit-out, with-bit-fits, with-bit-is}
+use Rattle.words.proofs.with_bit.Statement.{statement}
+use Rattle.words.proofs.with_bit.Tie as tie
+
+shr-weight : tie.Need-shr-weight
+shr-weight c = search needs
+
+weight-requires : tie.Need-weight-requires
+weight-requires c κs = search needs
+
+sub-result : tie.Need-sub-result
+sub-result c = search (bit-out, needs)
+
+weight-requires-2 : tie.Need-weight-requires-2
+weight-requires-2 c κs = search needs
+
+add-result : tie.Need-add-result
+add-result c = search (with-bit-fits, needs)
+
+returns : tie.Need-returns
+returns c = search (with-bit-is, needs)
+
+pub with-bit-spec : {M : Type 1} → statement M
+with-bit-spec =
+    tie.close (tie.spec shr-weight weight-requires sub-result weight-requires-2 add-result returns)
