@@ -10,8 +10,8 @@ use libc::STDIN_FILENO;
 use show::filled;
 use show::from_column;
 use show::text;
-use text::table::digit_at;
-use text::table::row_end;
+use tables::digit_at;
+use tables::row_end;
 
 // ---- what a row holds
 

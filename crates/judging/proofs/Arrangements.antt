@@ -27,7 +27,7 @@ use Rattle.pairs.specs.Pairs.{Pair, pair, pairs, Between}
 use Rattle.graph.specs.Counts.{entryAt}
 use Rattle.words.proofs.Placed.{same-places}
 use Rattle.pairs.proofs.PairLaws.{pairs-given, pairs-has}
-use Rattle.judging.specs.Judging.{samePair, pairOfTwo, image, walkAll, literalsOf, clauseOf, padded}
+use Rattle.judging.specs.Judging.{samePair, pairOfTwo, image, walkAll, padded}
 
 -- ---- one pair or two
 
@@ -123,10 +123,6 @@ module _ (n starts : ℕ) (high : n ≤ 32) where
         same-places p (padded (take n p)) (h .reordering .long) (padded-length (take n p) (omega (arith, permitted-length)))
         (λ i l. sym (padded-at (take n p) i ∙ by-below n i (λ (m : n < i). List·getD-eq-default (take n p) 0 (omega (arith, permitted-length)) ∙ sym (h .reordering .zeros i m)) (λ (m : i ≤ n). permitted-at i l m)))
 
-    -- each pair has the same image under both
-    pub permitted-image : (k : Pair) → image p k ≡ image (take n p) k
-    permitted-image k = ap (λ (q : List ℕ). image q k) permitted-padded ∙ padded-image (take n p) k
-
   -- a beginning of length n, padded, is a permitted arrangement
   pub padded-permitted : (b : List ℕ) → Beginning n (blockOf starts) b → length b ≡ n → Permitted n starts (padded b)
   padded-permitted b h long =
@@ -185,16 +181,6 @@ module _ (n : ℕ) (p : List ℕ) (h : Reordering n p) where
 pub padded-walk : (g : Graph) (b : List ℕ) → walkAll g (padded b) ≡ walkAll g b
 unfolding walkAll
 padded-walk g b = images-alike samePair (entryAt g) (image (padded b)) (image b) (pairs (g .order)) (λ k m. padded-image b k) .0
-
--- nor its literals
-pub padded-literals : (g : Graph) (b : List ℕ) → literalsOf g (padded b) ≡ literalsOf g b
-unfolding literalsOf
-padded-literals g b = images-alike samePair (entryAt g) (image (padded b)) (image b) (pairs (g .order)) (λ k m. padded-image b k) .1
-
--- nor its clause
-pub padded-clause : (g : Graph) (b : List ℕ) → clauseOf g (padded b) ≡ clauseOf g b
-unfolding clauseOf
-padded-clause g b = rw (padded-literals g b)
 
 -- ---- the entry at an image
 

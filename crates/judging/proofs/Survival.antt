@@ -8,14 +8,9 @@ use Rattle.judging.specs.Order.{FullyDrawn}
 use Rattle.arrangements.specs.Arrangement.{Permitted}
 use Rattle.graph.specs.Graph.{relabelled}
 use Rattle.judging.specs.Answer.{judgeAnswer}
-use Rattle.judging.specs.Certificates.{Certified}
-use Rattle.judging.specs.Drawings.{FullGraph, BrokenBy, Smallest, Survives}
-use Rattle.judging.proofs.Sound.{sound, written-sound}
+use Rattle.judging.specs.Drawings.{Smallest, Survives}
+use Rattle.judging.proofs.Sound.{written-sound}
 use Rattle.judging.proofs.Smallest.{smallest-copy}
-
--- it breaks no clause of a certificate
-pub smallest-unbroken : (g : Graph) (p : List ℕ) → Certified g p → (h : Graph) → FullGraph (g .order) (g .starts) h → Smallest h → ¬ BrokenBy g p h
-smallest-unbroken g p c h f least b = least p (sound g p c h f b)
 
 -- what has no permitted copy earlier survives
 pub smallest-survives : (h : Graph) → Smallest h → Survives h

@@ -5,4 +5,3 @@ pub mod Commas
 pub mod Poured
 pub mod Taken
 pub mod Lengths
-pub mod Tables

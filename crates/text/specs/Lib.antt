@@ -2,4 +2,3 @@ pub mod Text
 pub mod Page
 pub mod Decimal
 pub mod Lists
-pub mod Table

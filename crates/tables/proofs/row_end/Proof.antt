@@ -2,10 +2,10 @@ use borrow.Author.Needs.{needs}
 use Prim.Native.Nat.{_+_, _-_}
 use mathlib.Core.Path.{_≡_}
 use lib.ListN.{length, drop}
-use Rattle.text.specs.Table.{rowLength}
-use Rattle.text.proofs.Tables.{row-stops, row-turns, row-done}
-use Rattle.text.proofs.table.row_end.Statement.{statement}
-use Rattle.text.proofs.table.row_end.Tie as tie
+use Rattle.tables.specs.Table.{rowLength}
+use Rattle.tables.proofs.Tables.{row-stops, row-turns, row-done}
+use Rattle.tables.proofs.row_end.Statement.{statement}
+use Rattle.tables.proofs.row_end.Tie as tie
 
 abbrev Inv-loop : tie.InvT-loop
 Inv-loop table from i₀ i = i + rowLength (drop i table) ≡ from + rowLength (drop from table)

@@ -1,8 +1,8 @@
 use borrow.Author.Needs.{needs}
-use Rattle.text.specs.Table.{digitAt}
-use Rattle.text.proofs.Tables.{digit-past}
-use Rattle.text.proofs.table.digit_at.Statement.{statement}
-use Rattle.text.proofs.table.digit_at.Tie as tie
+use Rattle.tables.specs.Table.{digitAt}
+use Rattle.tables.proofs.Tables.{digit-past}
+use Rattle.tables.proofs.digit_at.Statement.{statement}
+use Rattle.tables.proofs.digit_at.Tie as tie
 
 shared-slice-read-digit : tie.Need-shared-slice-read-digit
 shared-slice-read-digit c = search needs

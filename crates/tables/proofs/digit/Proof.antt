@@ -1,7 +1,7 @@
 use borrow.Author.Needs.{needs}
-use Rattle.text.proofs.Tables.{digit-low, digit-decimal, digit-letter}
-use Rattle.text.proofs.table.digit.Statement.{statement}
-use Rattle.text.proofs.table.digit.Tie as tie
+use Rattle.tables.proofs.Tables.{digit-low, digit-decimal, digit-letter}
+use Rattle.tables.proofs.digit.Statement.{statement}
+use Rattle.tables.proofs.digit.Tie as tie
 
 returns : tie.Need-returns
 returns c = search (digit-low, needs)

@@ -1,10 +1,10 @@
 use borrow.Author.Needs.{needs}
 use Prim.Native.Nat.{_+_, _-_, _≤_}
 use mathlib.Core.Path.{_≡_}
-use Rattle.text.specs.Table.{hexFrom}
-use Rattle.text.proofs.Tables.{hex-starts, hex-turns, hex-done}
-use Rattle.text.proofs.table.hex_at.Statement.{statement}
-use Rattle.text.proofs.table.hex_at.Tie as tie
+use Rattle.tables.specs.Table.{hexFrom}
+use Rattle.tables.proofs.Tables.{hex-starts, hex-turns, hex-done}
+use Rattle.tables.proofs.hex_at.Statement.{statement}
+use Rattle.tables.proofs.hex_at.Tie as tie
 
 abbrev Inv-loop : tie.InvT-loop
 Inv-loop row column digits value₀ i₀ value i = (i ≤ digits) × (hexFrom row (column + i) (digits - i) value ≡ hexFrom row column digits 0)

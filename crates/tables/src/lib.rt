@@ -2,7 +2,7 @@
 ghost use mathlib.Core.Path.{_≡_};
 ghost use Prim.Native.Nat.{_+_, _%_, _<_};
 ghost use lib.ListN.{drop};
-ghost use Rattle.text.specs.Table.{rowLength, digitValue, digitAt, hexFrom};
+ghost use Rattle.tables.specs.Table.{rowLength, digitValue, digitAt, hexFrom};
 
 // Where the row that starts at a place ends: at the next line's end, or with the table.
 pub fn row_end(table: &[u8], from: usize) -> usize

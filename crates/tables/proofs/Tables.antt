@@ -8,7 +8,7 @@ use mathlib.Core.List.{List}
 use lib.ListN.{length, getD, drop, drop-of-length-le, List·getD-eq-default}
 use lib.Seq.{drop-cons}
 use Rattle.laws.specs.Test.{pick}
-use Rattle.text.specs.Table.{rowLength, digitValue, digitAt, hexFrom}
+use Rattle.tables.specs.Table.{rowLength, digitValue, digitAt, hexFrom}
 
 -- ---- the end of a row
 
