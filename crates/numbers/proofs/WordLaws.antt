@@ -2,41 +2,26 @@
 use Prim.Native.Nat.{ℕ, _+_, _-_, _*_, _/_, _%_, _^_, _≤_, _<_}
 use mathlib.Core.Path.{_≡_, refl, sym, ap, ap₂, _∙_}
 use mathlib.Core.List.{List}
-use native.Mathlib.Nat.{lt-of-lt-of-le, mul-mod-left, add-zero}
+use native.Mathlib.Nat.{lt-of-lt-of-le, mul-assoc, mul-mod-left, add-mul, add-zero}
 use native.Mathlib.Omega.{arith}
 use lib.ListN.{length, getD, List·getD-eq-default}
-use lib.Pow.{low, mod-pow-add, pow-mono, shl-shr, shr-shr}
+use lib.Bits.{bitOr, or-shifted}
+use lib.Pow.{low, mod-pow-add, pow-add, pow-mono, shl-lt, shl-shr, shr-shr}
 use mir.Syntax.{w64}
 use mir.Val.{Fits}
-use Rattle.laws.specs.Num.{num, num-append, num-below, num-top}
+use Rattle.laws.specs.Num.{num, num-append, num-below, num-of-zeros, num-top}
 use Rattle.fields.specs.Bits.{bitOf}
-use Rattle.fields.proofs.BitLaws.{bit-small, first-bits}
+use Rattle.fields.proofs.BitLaws.{bit-small, bit-past, first-bits}
 
 -- past the bytes there is 0
 pub byte-past : (s : List ℕ) (k : ℕ) → length s ≤ k → 0 ≡ getD s k 0
 byte-past s k h = sym (List·getD-eq-default s 0 h)
 
--- ---- bytes side by side
+-- ---- bytes one after the other
 
 -- the number of one byte
 byte-is : (s : List ℕ) (k x : ℕ) → x ≡ getD s k 0 → x < 256 → x ≡ num (bitOf s) (8 * k) 8
 byte-is s k x is-x h = let e : x ≡ x / 2 ^ (8 - 8) = omega arith in e ∙ sym (first-bits s k 8 x (omega arith) is-x h)
-
--- two numbers of as many bits
-beside : (s : List ℕ) (k k′ w x y : ℕ) → x ≡ num (bitOf s) (8 * k) w → y ≡ num (bitOf s) (8 * k′) w → 8 * k + w ≡ 8 * k′ → x * 2 ^ w + y ≡ num (bitOf s) (8 * k) (w + w)
-beside s k k′ w x y is-x is-y e =
-    sym (num-append (bitOf s) (8 * k) w w ∙ ap₂ (λ (p q : ℕ). p * 2 ^ w + q) (sym is-x) (ap (λ (a : ℕ). num (bitOf s) a w) e ∙ sym is-y))
-
-pub two-is : (s : List ℕ) (k x y : ℕ) → x ≡ getD s k 0 → x < 256 → y ≡ getD s (k + 1) 0 → y < 256 → x * 256 + y ≡ num (bitOf s) (8 * k) 16
-two-is s k x y is-x lx is-y ly = beside s k (k + 1) 8 x y (byte-is s k x is-x lx) (byte-is s (k + 1) y is-y ly) (omega arith)
-
-pub four-is : (s : List ℕ) (k x y : ℕ) → x ≡ num (bitOf s) (8 * k) 16 → y ≡ num (bitOf s) (8 * (k + 2)) 16 → x * 65536 + y ≡ num (bitOf s) (8 * k) 32
-four-is s k x y is-x is-y = beside s k (k + 2) 16 x y is-x is-y (omega arith)
-
-pub eight-is : (s : List ℕ) (k x y : ℕ) → x ≡ num (bitOf s) (8 * k) 32 → y ≡ num (bitOf s) (8 * (k + 4)) 32 → x * 4294967296 + y ≡ num (bitOf s) (8 * k) 64
-eight-is s k x y is-x is-y = beside s k (k + 4) 32 x y is-x is-y (omega arith)
-
--- ---- bytes one after the other
 
 pub bytes-start : (s : List ℕ) (k : ℕ) → 0 ≡ num (bitOf s) (8 * k) (8 * 0)
 unfolding num
@@ -62,7 +47,31 @@ times-fit s k t made is-made l =
 pub bytes-done : (s : List ℕ) (k t made : ℕ) → made ≡ num (bitOf s) (8 * k) (8 * t) → t ≤ 8 → 8 ≤ t → made ≡ num (bitOf s) (8 * k) 64
 bytes-done s k t made is-made a b = let e : 8 * t ≡ 64 = omega arith in is-made ∙ ap (num (bitOf s) (8 * k)) e
 
--- ---- from any place
+-- ---- eight bytes side by side
+
+-- a byte beside those before it, with room for others
+beside : (made x j : ℕ) → x < 256 → bitOr (made * 2 ^ (8 + j)) (x * 2 ^ j) ≡ (made * 256 + x) * 2 ^ j
+beside made x j l =
+    or-shifted made (8 + j) (x * 2 ^ j) (shl-lt 8 j l)
+    ∙ ap (λ (y : ℕ). made * y + x * 2 ^ j) (pow-add 2 8 j)
+    ∙ ap (λ (y : ℕ). y + x * 2 ^ j) (sym (mul-assoc made 256 (2 ^ j)))
+    ∙ sym (add-mul (made * 256) x (2 ^ j))
+
+module _ (s : List ℕ) (k a b c d e f g h : ℕ) (is-a : a ≡ getD s k 0) (is-b : b ≡ getD s (k + 1) 0) (is-c : c ≡ getD s (k + 2) 0) (is-d : d ≡ getD s (k + 3) 0)
+    (is-e : e ≡ getD s (k + 4) 0) (is-f : f ≡ getD s (k + 5) 0) (is-g : g ≡ getD s (k + 6) 0) (is-h : h ≡ getD s (k + 7) 0)
+    (la : a < 256) (lb : b < 256) (lc : c < 256) (ld : d < 256) (le : e < 256) (lf : f < 256) (lg : g < 256) (lh : h < 256) where
+  pub eight-is : bitOr (bitOr (bitOr (bitOr (bitOr (bitOr (bitOr (a * 2 ^ 56) (b * 2 ^ 48)) (c * 2 ^ 40)) (d * 2 ^ 32)) (e * 2 ^ 24)) (f * 2 ^ 16)) (g * 2 ^ 8)) h
+      ≡ num (bitOf s) (8 * k) 64
+  eight-is =
+      rw (beside a b 48 lb, beside (a * 256 + b) c 40 lc, beside ((a * 256 + b) * 256 + c) d 32 ld, beside (((a * 256 + b) * 256 + c) * 256 + d) e 24 le)
+      (rw (beside ((((a * 256 + b) * 256 + c) * 256 + d) * 256 + e) f 16 lf, beside (((((a * 256 + b) * 256 + c) * 256 + d) * 256 + e) * 256 + f) g 8 lg)
+      (or-shifted _ 8 h lh
+      ∙ bytes-more s k 7 _ h
+      (bytes-more s k 6 _ g
+      (bytes-more s k 5 _ f
+      (bytes-more s k 4 _ e (bytes-more s k 3 _ d (bytes-more s k 2 _ c (bytes-more s k 1 a b (byte-is s k a is-a la) is-b lb) is-c lc) is-d ld) is-e le) is-f lf)
+      is-g lg)
+      is-h lh))
 
 -- what is shifted out is cut off
 moved : (f : ℕ → ℕ) → ((k : ℕ) → f k < 2) → (a p q w : ℕ) → w ≡ num f a (p + q) → w * 2 ^ p % 2 ^ (q + p) ≡ num f (a + p) q * 2 ^ p
@@ -71,6 +80,29 @@ moved f small a p q w is-w =
     ∙ ap₂ (λ (x y : ℕ). x % 2 ^ q * 2 ^ p + y) (shl-shr w p) (mul-mod-left w (2 ^ p))
     ∙ add-zero (w % 2 ^ q * 2 ^ p)
     ∙ ap (λ (x : ℕ). x * 2 ^ p) (ap (λ (x : ℕ). x % 2 ^ q) (is-w ∙ num-append f a p q) ∙ low (num f a p) q (num-below f small (a + p) q))
+
+-- past the bytes there are zeros
+zeros-past : (s : List ℕ) (a w : ℕ) → 8 * length s ≤ a → num (bitOf s) a w ≡ 0
+zeros-past s a w h = num-of-zeros (bitOf s) a w (λ t l. sym (bit-past s a t (omega arith)))
+
+pub nothing-past : (s : List ℕ) (k : ℕ) → length s ≤ k → 0 ≡ num (bitOf s) (8 * k) 64
+nothing-past s k h = sym (zeros-past s (8 * k) 64 (omega arith))
+
+-- the last eight bytes, moved up to where byte k is the first
+pub last-moved : (s : List ℕ) (k w : ℕ) → w ≡ num (bitOf s) (8 * (length s - 8)) 64 → 8 ≤ length s → k < length s → length s < k + 8
+    → w * 2 ^ (8 * (k + 8 - length s)) % 2 ^ 64 ≡ num (bitOf s) (8 * k) 64
+last-moved s k w is-w some inside short = go (8 * (k + 8 - length s)) (64 - 8 * (k + 8 - length s)) (omega arith) (omega arith) (omega arith)
+  where
+    go : (p q : ℕ) → p + q ≡ 64 → 8 * (length s - 8) + p ≡ 8 * k → 8 * k + q ≡ 8 * length s → w * 2 ^ p % 2 ^ 64 ≡ num (bitOf s) (8 * k) 64
+    go p q e at end =
+        let e′ : q + p ≡ 64 = omega arith in
+        ap (λ (n : ℕ). w * 2 ^ p % 2 ^ n) (sym e′)
+        ∙ moved (bitOf s) (bit-small s) (8 * (length s - 8)) p q w (is-w ∙ ap (num (bitOf s) (8 * (length s - 8))) (sym e))
+        ∙ ap (λ (a : ℕ). num (bitOf s) a q * 2 ^ p) at
+        ∙ sym (ap (num (bitOf s) (8 * k)) (sym e′) ∙ num-append (bitOf s) (8 * k) q p
+        ∙ ap (λ (x : ℕ). num (bitOf s) (8 * k) q * 2 ^ p + x) (zeros-past s (8 * k + q) p (omega arith)) ∙ add-zero (num (bitOf s) (8 * k) q * 2 ^ p))
+
+-- ---- from any place
 
 module _ (s : List ℕ) (place w b : ℕ) (is-w : w ≡ num (bitOf s) (8 * (place / 8)) 64) (is-b : b ≡ getD s (place / 8 + 8) 0) (small : b < 256) where
   abbrev whole : ℕ

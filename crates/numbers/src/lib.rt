@@ -3,7 +3,7 @@
 pub mod gathered;
 
 ghost use mathlib.Core.Path.{_≡_};
-ghost use Prim.Native.Nat.{_+_, _*_, _≤_, _<_, _^_};
+ghost use Prim.Native.Nat.{_+_, _*_, _≤_, _<_};
 ghost use lib.ListN.{length, getD};
 ghost use Rattle.laws.specs.Num.{num};
 ghost use Rattle.fields.specs.Bits.{bitOf};
@@ -22,32 +22,23 @@ pub fn byte_at(bytes: &[u8], k: usize) -> u64
     if k < bytes.len() { wide(bytes[k]) } else { 0 }
 }
 
-// The number that two bytes make.
-fn two_at(bytes: &[u8], k: usize) -> u64
-    requires { ⌜ k + 2 ≤ length (now bytes) ⌝ }
-    ensures { λ r. ⌜ (r ≡ num (bitOf (now (bytes .entry))) (8 * k) 16) × (r < 2 ^ 16) ⌝ }
-{
-    wide(bytes[k]) * 256 + wide(bytes[k + 1])
-}
-
-// The number that four bytes make.
-fn four_at(bytes: &[u8], k: usize) -> u64
-    requires { ⌜ k + 4 ≤ length (now bytes) ⌝ }
-    ensures { λ r. ⌜ (r ≡ num (bitOf (now (bytes .entry))) (8 * k) 32) × (r < 2 ^ 32) ⌝ }
-{
-    two_at(bytes, k) * 65536 + two_at(bytes, k + 2)
-}
-
-// The number that eight bytes make.
+// The number that eight bytes make: the compiler loads it at once.
 fn eight_at(bytes: &[u8], k: usize) -> u64
     requires { ⌜ k + 8 ≤ length (now bytes) ⌝ }
     ensures { λ r. ⌜ r ≡ num (bitOf (now (bytes .entry))) (8 * k) 64 ⌝ }
 {
-    four_at(bytes, k) * 4294967296 + four_at(bytes, k + 4)
+    (wide(bytes[k]) * 0x100_0000_0000_0000)
+        | (wide(bytes[k + 1]) * 0x1_0000_0000_0000)
+        | (wide(bytes[k + 2]) * 0x100_0000_0000)
+        | (wide(bytes[k + 3]) * 0x1_0000_0000)
+        | (wide(bytes[k + 4]) * 0x100_0000)
+        | (wide(bytes[k + 5]) * 0x1_0000)
+        | (wide(bytes[k + 6]) * 0x100)
+        | wide(bytes[k + 7])
 }
 
-// The same where the bytes end before, with zeros past them.
-fn last_at(bytes: &[u8], k: usize) -> u64
+// The same of few bytes, with zeros past them.
+fn few_at(bytes: &[u8], k: usize) -> u64
     requires { ⌜ k ≤ 2500 ⌝ }
     ensures { λ r. ⌜ r ≡ num (bitOf (now (bytes .entry))) (8 * k) 64 ⌝ }
 {
@@ -58,6 +49,21 @@ fn last_at(bytes: &[u8], k: usize) -> u64
         t += 1;
     }
     made
+}
+
+// The same where the bytes end before, with zeros past them: the last eight bytes, moved up.
+fn last_at(bytes: &[u8], k: usize) -> u64
+    requires { ⌜ (k ≤ 2500) × (length (now bytes) < k + 8) ⌝ }
+    ensures { λ r. ⌜ r ≡ num (bitOf (now (bytes .entry))) (8 * k) 64 ⌝ }
+{
+    let given = bytes.len();
+    if given < 8 {
+        return few_at(bytes, k);
+    }
+    if given <= k {
+        return 0;
+    }
+    eight_at(bytes, given - 8) << (8 * (k + 8 - given))
 }
 
 // The number that eight bytes make, as far as they are there.

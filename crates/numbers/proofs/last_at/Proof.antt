@@ -1,58 +1,45 @@
--- After t turns the bits of t bytes are there.
-use Prim.Native.Nat.{_-_, _*_, _≤_}
-use mathlib.Core.Path.{_≡_}
-use Rattle.laws.specs.Num.{num}
-use Rattle.fields.specs.Bits.{bitOf}
-use Rattle.numbers.proofs.WordLaws.{bytes-start, bytes-more, bytes-fit, times-fit, bytes-done}
+use Rattle.numbers.proofs.WordLaws.{nothing-past, last-moved}
 use borrow.Author.Needs.{needs}
 use Rattle.numbers.proofs.last_at.Statement.{statement}
 use Rattle.numbers.proofs.last_at.Tie as tie
 
-abbrev Inv-loop : tie.InvT-loop
-Inv-loop bytes k made₀ t₀ made t = (t ≤ 8) × (made ≡ num (bitOf bytes) (8 * k) (8 * t))
+few-at-requires : tie.Need-few-at-requires
+few-at-requires c κs = search needs
 
-abbrev μ-loop : tie.MeasureT-loop
-μ-loop bytes k made₀ t₀ made t = 8 - t
+returns : tie.Need-returns
+returns c = search needs
 
-loop-holds : tie.Need-loop-holds Inv-loop μ-loop
-loop-holds c = search (bytes-start, needs)
+returns-2 : tie.Need-returns-2
+returns-2 c = search (nothing-past, needs)
 
-mul-made : tie.Need-mul-made Inv-loop μ-loop
-mul-made c = search (times-fit, needs)
+eight-at-requires : tie.Need-eight-at-requires
+eight-at-requires c κs = search needs
 
-add-byte-at : tie.Need-add-byte-at Inv-loop μ-loop
-add-byte-at c = search needs
+add-result : tie.Need-add-result
+add-result c = search needs
 
-byte-at-requires : tie.Need-byte-at-requires Inv-loop μ-loop
-byte-at-requires c κs = search needs
+sub-result : tie.Need-sub-result
+sub-result c = search needs
 
-add-made : tie.Need-add-made Inv-loop μ-loop
-add-made c = search (bytes-fit, needs)
+mul-result : tie.Need-mul-result
+mul-result c = search needs
 
-add-t : tie.Need-add-t Inv-loop μ-loop
-add-t c = search needs
+shl-result : tie.Need-shl-result
+shl-result c = search needs
 
-loop-less : tie.Need-loop-less Inv-loop μ-loop
-loop-less c = search needs
-
-loop-again : tie.Need-loop-again Inv-loop μ-loop
-loop-again c = search (bytes-more, needs)
-
-returns : tie.Need-returns Inv-loop μ-loop
-returns c = search (bytes-done, needs)
+returns-3 : tie.Need-returns-3
+returns-3 c = search (last-moved, needs)
 
 pub last-at-spec : {M : Type 1} → statement M
 last-at-spec =
     tie.close
     (tie.spec
-    Inv-loop
-    μ-loop
-    loop-holds
-    mul-made
-    add-byte-at
-    byte-at-requires
-    add-made
-    add-t
-    loop-less
-    loop-again
-    returns)
+    few-at-requires
+    returns
+    returns-2
+    eight-at-requires
+    add-result
+    sub-result
+    mul-result
+    shl-result
+    returns-3)
