@@ -4,9 +4,6 @@ use Rattle.cafruzek.proofs.RecordCases.{read-number, read-checked, unre
 use Rattle.cafruzek.proofs.cafruzek_judge_record.Statement.{statement}
 use Rattle.cafruzek.proofs.cafruzek_judge_record.Tie as tie
 
-read-requires : tie.Need-read-requires
-read-requires c κs = search needs
-
 refused-requires : tie.Need-refused-requires
 refused-requires c κs = search (read-number, needs)
 
@@ -19,20 +16,10 @@ judge-checked-requires c κs = search (read-checked, needs)
 tell-requires : tie.Need-tell-requires
 tell-requires c κs = search (is-judgement, needs)
 
-same-length : tie.Need-same-length
-same-length c = search needs
-
 returns-2 : tie.Need-returns-2
 returns-2 c = search (read-packed, read-buffer, read-arranged, needs)
 
 pub cafruzek-judge-record-spec : {M : Type 1} → statement M
 cafruzek-judge-record-spec =
-    tie.close
-    (tie.spec
-    read-requires
-    refused-requires
-    returns
-    judge-checked-requires
-    tell-requires
-    same-length
-    returns-2)
+    tie.close (tie.spec (λ c κs. search needs) refused-requires returns judge-checked-requires tell-requires
+    (λ c. search needs) returns-2)

@@ -3,9 +3,6 @@ use Rattle.cafruzek.proofs.RecordCases.{extent-number, extent-bytes, si
 use Rattle.cafruzek.proofs.cafruzek_record_size.Statement.{statement}
 use Rattle.cafruzek.proofs.cafruzek_record_size.Tie as tie
 
-record-at-requires : tie.Need-record-at-requires
-record-at-requires c κs = search needs
-
 counted-requires : tie.Need-counted-requires
 counted-requires c κs = search (extent-number, extent-bytes, needs)
 
@@ -13,4 +10,5 @@ returns : tie.Need-returns
 returns c = search (size-made, needs)
 
 pub cafruzek-record-size-spec : {M : Type 1} → statement M
-cafruzek-record-size-spec = tie.close (tie.spec record-at-requires counted-requires returns)
+cafruzek-record-size-spec =
+    tie.close (tie.spec (λ c κs. search needs) counted-requires returns)

@@ -7,43 +7,22 @@ use Rattle.composing.specs.Answers.{composeAnswer}
 use Rattle.composing.proofs.compose.Statement.{statement}
 use Rattle.composing.proofs.compose.Tie as tie
 
-order-fits-requires : tie.Need-order-fits-requires
-order-fits-requires c κs = search needs
-
-is-reordering-requires : tie.Need-is-reordering-requires
-is-reordering-requires c κs = search needs
-
-is-reordering-requires-2 : tie.Need-is-reordering-requires-2
-is-reordering-requires-2 c κs = search needs
-
 composed-of-requires : tie.Need-composed-of-requires
 composed-of-requires c κs =
     let first = c .before .before .before .before in
     (search order-most, known-reordering _ _ _ (first .before .is-reordering .ensures) (first .if2 .taken), known-reordering _ _ _ (c .before .before .before .is-reordering2 .ensures) (c .before .before .if3 .taken))
 
-arranged-requires : tie.Need-arranged-requires
-arranged-requires c κs = search needs
-
 returns : tie.Need-returns
 unfolding composeAnswer
 returns c = search (passed, arranged-is, first-held, needs)
-
-unarranged-requires : tie.Need-unarranged-requires
-unarranged-requires c κs = search needs
 
 returns-2 : tie.Need-returns-2
 unfolding composeAnswer
 returns-2 c = search (refused, passed, first-held, needs)
 
-unarranged-requires-2 : tie.Need-unarranged-requires-2
-unarranged-requires-2 c κs = search needs
-
 returns-3 : tie.Need-returns-3
 unfolding composeAnswer
 returns-3 c = search (refused, passed, first-refused, needs)
-
-unarranged-requires-3 : tie.Need-unarranged-requires-3
-unarranged-requires-3 c κs = search needs
 
 returns-4 : tie.Need-returns-4
 unfolding composeAnswer
@@ -51,17 +30,6 @@ returns-4 c = search (refused, needs)
 
 pub compose-spec : {M : Type 1} → statement M
 compose-spec =
-    tie.close
-    (tie.spec
-    order-fits-requires
-    is-reordering-requires
-    is-reordering-requires-2
-    composed-of-requires
-    arranged-requires
-    returns
-    unarranged-requires
-    returns-2
-    unarranged-requires-2
-    returns-3
-    unarranged-requires-3
-    returns-4)
+    tie.close (tie.spec (λ c κs. search needs) (λ c κs. search needs) (λ c κs. search needs) composed-of-requires
+    (λ c κs. search needs) returns (λ c κs. search needs) returns-2 (λ c κs. search needs) returns-3
+    (λ c κs. search needs) returns-4)

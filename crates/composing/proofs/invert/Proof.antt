@@ -7,31 +7,16 @@ use Rattle.composing.specs.Answers.{invertAnswer}
 use Rattle.composing.proofs.invert.Statement.{statement}
 use Rattle.composing.proofs.invert.Tie as tie
 
-order-fits-requires : tie.Need-order-fits-requires
-order-fits-requires c κs = search needs
-
-is-reordering-requires : tie.Need-is-reordering-requires
-is-reordering-requires c κs = search needs
-
 inverse-of-requires : tie.Need-inverse-of-requires
 inverse-of-requires c κs = (search (order-most, needs), search (known-reordering, needs))
-
-arranged-requires : tie.Need-arranged-requires
-arranged-requires c κs = search needs
 
 returns : tie.Need-returns
 unfolding invertAnswer
 returns c = search (passed, arranged-is, needs)
 
-unarranged-requires : tie.Need-unarranged-requires
-unarranged-requires c κs = search needs
-
 returns-2 : tie.Need-returns-2
 unfolding invertAnswer
 returns-2 c = search (refused, passed, needs)
-
-unarranged-requires-2 : tie.Need-unarranged-requires-2
-unarranged-requires-2 c κs = search needs
 
 returns-3 : tie.Need-returns-3
 unfolding invertAnswer
@@ -39,14 +24,5 @@ returns-3 c = search (refused, needs)
 
 pub invert-spec : {M : Type 1} → statement M
 invert-spec =
-    tie.close
-    (tie.spec
-    order-fits-requires
-    is-reordering-requires
-    inverse-of-requires
-    arranged-requires
-    returns
-    unarranged-requires
-    returns-2
-    unarranged-requires-2
-    returns-3)
+    tie.close (tie.spec (λ c κs. search needs) (λ c κs. search needs) inverse-of-requires (λ c κs. search needs)
+    returns (λ c κs. search needs) returns-2 (λ c κs. search needs) returns-3)

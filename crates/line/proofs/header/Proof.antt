@@ -5,18 +5,10 @@ use Rattle.line.specs.Line.{headerText}
 use Rattle.line.proofs.header.Statement.{statement}
 use Rattle.line.proofs.header.Tie as tie
 
-slice-aggregate-put : tie.Need-slice-aggregate-put
-slice-aggregate-put c = search needs
-
-put-requires : tie.Need-put-requires
-put-requires c κs = search needs
-
-same-length : tie.Need-same-length
-same-length c = search needs
-
 returns : tie.Need-returns
 unfolding headerText bytesOf
 returns c = search (poured-is, needs)
 
 pub header-spec : {M : Type 1} → statement M
-header-spec = tie.close (tie.spec slice-aggregate-put put-requires same-length returns)
+header-spec =
+    tie.close (tie.spec (λ c. search needs) (λ c κs. search needs) (λ c. search needs) returns)

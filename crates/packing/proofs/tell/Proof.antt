@@ -3,26 +3,8 @@ use Rattle.packing.proofs.JudgeCases.{literals-fit, smaller-row, smalle
 use Rattle.packing.proofs.tell.Statement.{statement}
 use Rattle.packing.proofs.tell.Tie as tie
 
-enum-known-verdict : tie.Need-enum-known-verdict
-enum-known-verdict c = search needs
-
 joined-requires : tie.Need-joined-requires
 joined-requires c κs = search (smaller-row, smaller-column, literals-fit, needs)
-
-enum-known-verdict-2 : tie.Need-enum-known-verdict-2
-enum-known-verdict-2 c = search needs
-
-joined-requires-2 : tie.Need-joined-requires-2
-joined-requires-2 c κs = search needs
-
-enum-known-verdict-3 : tie.Need-enum-known-verdict-3
-enum-known-verdict-3 c = search needs
-
-joined-requires-3 : tie.Need-joined-requires-3
-joined-requires-3 c κs = search needs
-
-enum-known-verdict-4 : tie.Need-enum-known-verdict-4
-enum-known-verdict-4 c = search needs
 
 refused-requires : tie.Need-refused-requires
 refused-requires c κs = search (refusal-number, needs)
@@ -41,17 +23,6 @@ returns-4 c = search (refusal-packed, refusal-arranged, needs)
 
 pub tell-spec : {M : Type 1} → statement M
 tell-spec =
-    tie.close
-    (tie.spec
-    enum-known-verdict
-    joined-requires
-    enum-known-verdict-2
-    joined-requires-2
-    enum-known-verdict-3
-    joined-requires-3
-    enum-known-verdict-4
-    refused-requires
-    returns
-    returns-2
-    returns-3
+    tie.close (tie.spec (λ c. search needs) joined-requires (λ c. search needs) (λ c κs. search needs)
+    (λ c. search needs) (λ c κs. search needs) (λ c. search needs) refused-requires returns returns-2 returns-3
     returns-4)

@@ -13,13 +13,9 @@ standing-requires c κs = (search order-least, search order-bounded, search (cer
 write-clause-requires : tie.Need-write-clause-requires
 write-clause-requires c κs = (search needs, search (certificate-tested, needs), search (stands-there, needs), search needs)
 
-same-length : tie.Need-same-length
-same-length c = search needs
-
 returns : tie.Need-returns
 returns c = (search (smaller-is, needs), search (clause-is, needs))
 
 pub certify-spec : {M : Type 1} → statement M
 certify-spec =
-    tie.close
-    (tie.spec complete-requires standing-requires write-clause-requires same-length returns)
+    tie.close (tie.spec complete-requires standing-requires write-clause-requires (λ c. search needs) returns)

@@ -3,20 +3,8 @@ use Rattle.search.proofs.CodeJudge.{formed-known, answers-malformed}
 use Rattle.search.proofs.judge.Statement.{statement}
 use Rattle.search.proofs.judge.Tie as tie
 
-is-well-formed-requires : tie.Need-is-well-formed-requires
-is-well-formed-requires c κs = search needs
-
 judge-checked-requires : tie.Need-judge-checked-requires
 judge-checked-requires c κs = search formed-known
-
-same-length : tie.Need-same-length
-same-length c = search needs
-
-returns : tie.Need-returns
-returns c = search needs
-
-bare-requires : tie.Need-bare-requires
-bare-requires c κs = search needs
 
 returns-2 : tie.Need-returns-2
 returns-2 c =
@@ -25,11 +13,5 @@ returns-2 c =
 
 pub judge-spec : {M : Type 1} → statement M
 judge-spec =
-    tie.close
-    (tie.spec
-    is-well-formed-requires
-    judge-checked-requires
-    same-length
-    returns
-    bare-requires
-    returns-2)
+    tie.close (tie.spec (λ c κs. search needs) judge-checked-requires (λ c. search needs) (λ c. search needs)
+    (λ c κs. search needs) returns-2)

@@ -10,16 +10,10 @@ has-room-requires c κs = let w = formed _ (c .pre) in (w .order-low, w .order-h
 judge-formed-requires : tie.Need-judge-formed-requires
 judge-formed-requires c κs = (search needs, search room-known)
 
-same-length : tie.Need-same-length
-same-length c = search needs
-
 returns : tie.Need-returns
 returns c =
     let fits = c .before .before .before .before .before .before in
     answers-judged _ _ _ (fits .before .before .pre) _ (fits .before .has-room .ensures) _ _ (fits .if1 .taken) (c .before .judge-formed .ensures .0) (c .before .judge-formed .ensures .1)
-
-bare-requires : tie.Need-bare-requires
-bare-requires c κs = search needs
 
 returns-2 : tie.Need-returns-2
 returns-2 c =
@@ -28,5 +22,5 @@ returns-2 c =
 
 pub judge-checked-spec : {M : Type 1} → statement M
 judge-checked-spec =
-    tie.close
-    (tie.spec has-room-requires judge-formed-requires same-length returns bare-requires returns-2)
+    tie.close (tie.spec has-room-requires judge-formed-requires (λ c. search needs) returns (λ c κs. search needs)
+    returns-2)

@@ -7,30 +7,18 @@ use Rattle.search.proofs.judge_formed.Tie as tie
 block-masks-requires : tie.Need-block-masks-requires
 block-masks-requires c κs = search order-bounded
 
-explore-requires : tie.Need-explore-requires
-explore-requires c κs = search needs
-
 certify-requires : tie.Need-certify-requires
 certify-requires c κs =
     let end = c .before .before .before .explore in
     (search needs, search needs, search needs, search needs, found-begins _ _ (end .result) _ (end .ensures .0) (c .before .before .if1 .taken), found-won _ _ (end .result) _ (end .ensures .0) (c .before .before .if1 .taken), search still-zeros)
 
-same-length : tie.Need-same-length
-same-length c = search needs
-
 returns : tie.Need-returns
 returns c = (search answers-first, search smaller-buffer)
-
-bare-requires : tie.Need-bare-requires
-bare-requires c κs = search needs
 
 returns-2 : tie.Need-returns-2
 returns-2 c =
     let end = c .before .before .before .explore in
     (answers-none _ _ (end .result) _ (end .ensures .0) _ (c .before .if2 .taken) (c .bare .ensures), search none-buffer)
-
-bare-requires-2 : tie.Need-bare-requires-2
-bare-requires-2 c κs = search needs
 
 returns-3 : tie.Need-returns-3
 returns-3 c =
@@ -39,14 +27,5 @@ returns-3 c =
 
 pub judge-formed-spec : {M : Type 1} → statement M
 judge-formed-spec =
-    tie.close
-    (tie.spec
-    block-masks-requires
-    explore-requires
-    certify-requires
-    same-length
-    returns
-    bare-requires
-    returns-2
-    bare-requires-2
-    returns-3)
+    tie.close (tie.spec block-masks-requires (λ c κs. search needs) certify-requires (λ c. search needs) returns
+    (λ c κs. search needs) returns-2 (λ c κs. search needs) returns-3)

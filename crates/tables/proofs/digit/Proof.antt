@@ -6,20 +6,12 @@ use Rattle.tables.proofs.digit.Tie as tie
 returns : tie.Need-returns
 returns c = search (digit-low, needs)
 
-cast-result : tie.Need-cast-result
-cast-result c = search needs
-
 returns-2 : tie.Need-returns-2
 returns-2 c = search (digit-decimal, needs)
-
-sub-result : tie.Need-sub-result
-sub-result c = search needs
-
-cast-result-2 : tie.Need-cast-result-2
-cast-result-2 c = search needs
 
 returns-3 : tie.Need-returns-3
 returns-3 c = search (digit-letter, needs)
 
 pub digit-spec : {M : Type 1} → statement M
-digit-spec = tie.close (tie.spec returns cast-result returns-2 sub-result cast-result-2 returns-3)
+digit-spec =
+    tie.close (tie.spec returns (λ c. search needs) returns-2 (λ c. search needs) (λ c. search needs) returns-3)

@@ -4,12 +4,6 @@ use Rattle.tables.proofs.Tables.{digit-past}
 use Rattle.tables.proofs.digit_at.Statement.{statement}
 use Rattle.tables.proofs.digit_at.Tie as tie
 
-shared-slice-read-digit : tie.Need-shared-slice-read-digit
-shared-slice-read-digit c = search needs
-
-digit-requires : tie.Need-digit-requires
-digit-requires c κs = search needs
-
 returns : tie.Need-returns
 unfolding digitAt
 returns c = search needs
@@ -18,4 +12,5 @@ returns-2 : tie.Need-returns-2
 returns-2 c = search (digit-past, needs)
 
 pub digit-at-spec : {M : Type 1} → statement M
-digit-at-spec = tie.close (tie.spec shared-slice-read-digit digit-requires returns returns-2)
+digit-at-spec =
+    tie.close (tie.spec (λ c. search needs) (λ c κs. search needs) returns returns-2)

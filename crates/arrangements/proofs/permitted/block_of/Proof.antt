@@ -17,18 +17,6 @@ abbrev μ-loop : tie.MeasureT-loop
 loop-holds : tie.Need-loop-holds Inv-loop μ-loop
 loop-holds c = search (sum-starts, needs)
 
-shr-blocks : tie.Need-shr-blocks Inv-loop μ-loop
-shr-blocks c = search needs
-
-add-blocks : tie.Need-add-blocks Inv-loop μ-loop
-add-blocks c = search needs
-
-add-i : tie.Need-add-i Inv-loop μ-loop
-add-i c = search needs
-
-loop-less : tie.Need-loop-less Inv-loop μ-loop
-loop-less c = search needs
-
 loop-again : tie.Need-loop-again Inv-loop μ-loop
 loop-again c = search (block-turns, needs)
 
@@ -37,5 +25,5 @@ returns c = search (sum-done, needs)
 
 pub block-of-spec : {M : Type 1} → statement M
 block-of-spec =
-    tie.close
-    (tie.spec Inv-loop μ-loop loop-holds shr-blocks add-blocks add-i loop-less loop-again returns)
+    tie.close (tie.spec Inv-loop μ-loop loop-holds (λ c. search needs) (λ c. search needs) (λ c. search needs)
+    (λ c. search needs) loop-again returns)

@@ -18,17 +18,8 @@ abbrev μ-loop : tie.MeasureT-loop
 loop-holds : tie.Need-loop-holds Inv-loop μ-loop
 loop-holds c = search (all-starts, needs)
 
-add-stays-in-block : tie.Need-add-stays-in-block Inv-loop μ-loop
-add-stays-in-block c = search needs
-
 stays-in-block-requires : tie.Need-stays-in-block-requires Inv-loop μ-loop
 stays-in-block-requires c κs = search (vertex-in, needs)
-
-add-i : tie.Need-add-i Inv-loop μ-loop
-add-i c = search needs
-
-loop-less : tie.Need-loop-less Inv-loop μ-loop
-loop-less c = search needs
 
 loop-again : tie.Need-loop-again Inv-loop μ-loop
 loop-again c = search (all-turns, needs)
@@ -41,15 +32,5 @@ returns-2 c = search (all-done, needs)
 
 pub blocks-kept-spec : {M : Type 1} → statement M
 blocks-kept-spec =
-    tie.close
-    (tie.spec
-    Inv-loop
-    μ-loop
-    loop-holds
-    add-stays-in-block
-    stays-in-block-requires
-    add-i
-    loop-less
-    loop-again
-    returns
-    returns-2)
+    tie.close (tie.spec Inv-loop μ-loop loop-holds (λ c. search needs) stays-in-block-requires (λ c. search needs)
+    (λ c. search needs) loop-again returns returns-2)

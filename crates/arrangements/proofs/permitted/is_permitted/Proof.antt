@@ -3,9 +3,6 @@ use Rattle.arrangements.proofs.CodeTests.{known-reordering, permitted-i
 use Rattle.arrangements.proofs.permitted.is_permitted.Statement.{statement}
 use Rattle.arrangements.proofs.permitted.is_permitted.Tie as tie
 
-is-reordering-requires : tie.Need-is-reordering-requires
-is-reordering-requires c κs = search needs
-
 blocks-kept-requires : tie.Need-blocks-kept-requires
 blocks-kept-requires c κs = search (known-reordering, needs)
 
@@ -17,4 +14,4 @@ returns-2 c = search (permitted-not, needs)
 
 pub is-permitted-spec : {M : Type 1} → statement M
 is-permitted-spec =
-    tie.close (tie.spec is-reordering-requires blocks-kept-requires returns returns-2)
+    tie.close (tie.spec (λ c κs. search needs) blocks-kept-requires returns returns-2)

@@ -3,11 +3,9 @@ use Rattle.arrangements.proofs.CodeTests.{vertex-low, vertex-high}
 use Rattle.arrangements.proofs.places.vertex_of.Statement.{statement}
 use Rattle.arrangements.proofs.places.vertex_of.Tie as tie
 
-vertex-at-requires : tie.Need-vertex-at-requires
-vertex-at-requires c κs = search needs
-
 returns : tie.Need-returns
 returns c = search (vertex-low, vertex-high, needs)
 
 pub vertex-of-spec : {M : Type 1} → statement M
-vertex-of-spec = tie.close (tie.spec vertex-at-requires returns)
+vertex-of-spec =
+    tie.close (tie.spec (λ c κs. search needs) returns)

@@ -20,23 +20,8 @@ loop-holds c = (search needs, search needs, search needs, search needs, search f
 pair-turn-requires : tie.Need-pair-turn-requires Inv-loop μ-loop
 pair-turn-requires c κs = (search needs, search needs, search needs, search needs, search within-low, search within-high, search column-low, search column-high)
 
-add-j : tie.Need-add-j Inv-loop μ-loop
-add-j c = search needs
-
-loop-less : tie.Need-loop-less Inv-loop μ-loop
-loop-less c = search needs
-
 loop-again : tie.Need-loop-again Inv-loop μ-loop
 loop-again c = (search needs, search needs, search needs, search needs, first-along _ _ _ _ _ (c .before .before .before .before .loop .inv .4) _ (c .if2 .taken) (c .before .before .pair-turn .ensures) (c .before .if1 .taken))
-
-add-i : tie.Need-add-i Inv-loop μ-loop
-add-i c = search needs
-
-add-j-2 : tie.Need-add-j-2 Inv-loop μ-loop
-add-j-2 c = search needs
-
-loop-less-2 : tie.Need-loop-less-2 Inv-loop μ-loop
-loop-less-2 c = search needs
 
 loop-again-2 : tie.Need-loop-again-2 Inv-loop μ-loop
 loop-again-2 c = (search needs, search needs, search needs, search needs, search first-down)
@@ -49,18 +34,5 @@ returns-2 c = search (first-none, needs)
 
 pub standing-spec : {M : Type 1} → statement M
 standing-spec =
-    tie.close
-    (tie.spec
-    Inv-loop
-    μ-loop
-    loop-holds
-    pair-turn-requires
-    add-j
-    loop-less
-    loop-again
-    add-i
-    add-j-2
-    loop-less-2
-    loop-again-2
-    returns
-    returns-2)
+    tie.close (tie.spec Inv-loop μ-loop loop-holds pair-turn-requires (λ c. search needs) (λ c. search needs)
+    loop-again (λ c. search needs) (λ c. search needs) (λ c. search needs) loop-again-2 returns returns-2)

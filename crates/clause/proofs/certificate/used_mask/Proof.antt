@@ -16,20 +16,11 @@ abbrev μ-loop : tie.MeasureT-loop
 loop-holds : tie.Need-loop-holds Inv-loop μ-loop
 loop-holds c = search (used-starts, needs)
 
-element-copy-out-weight-of : tie.Need-element-copy-out-weight-of Inv-loop μ-loop
-element-copy-out-weight-of c = search needs
-
 weight-of-requires : tie.Need-weight-of-requires Inv-loop μ-loop
 weight-of-requires c κs = (search path-low, search path-high)
 
 add-used : tie.Need-add-used Inv-loop μ-loop
 add-used c = search (used-small, needs)
-
-add-i : tie.Need-add-i Inv-loop μ-loop
-add-i c = search needs
-
-loop-less : tie.Need-loop-less Inv-loop μ-loop
-loop-less c = search needs
 
 loop-again : tie.Need-loop-again Inv-loop μ-loop
 loop-again c = (search needs, search used-longer)
@@ -39,15 +30,5 @@ returns c = search (used-done, needs)
 
 pub used-mask-spec : {M : Type 1} → statement M
 used-mask-spec =
-    tie.close
-    (tie.spec
-    Inv-loop
-    μ-loop
-    loop-holds
-    element-copy-out-weight-of
-    weight-of-requires
-    add-used
-    add-i
-    loop-less
-    loop-again
-    returns)
+    tie.close (tie.spec Inv-loop μ-loop loop-holds (λ c. search needs) weight-of-requires add-used (λ c. search needs)
+    (λ c. search needs) loop-again returns)

@@ -10,12 +10,9 @@ inverse-of-requires c κs = (search (order-bounded, needs), search (path-tested,
 write-pairs-requires : tie.Need-write-pairs-requires
 write-pairs-requires c κs = (search (order-bounded, needs), search (reorders, needs), search needs, search (row-low, needs), search (row-before, needs), search (column-high, needs), search needs)
 
-same-length : tie.Need-same-length
-same-length c = search needs
-
 returns : tie.Need-returns
 returns c = (search (clause-counted, needs), search (clause-written, needs))
 
 pub write-clause-spec : {M : Type 1} → statement M
 write-clause-spec =
-    tie.close (tie.spec inverse-of-requires write-pairs-requires same-length returns)
+    tie.close (tie.spec inverse-of-requires write-pairs-requires (λ c. search needs) returns)

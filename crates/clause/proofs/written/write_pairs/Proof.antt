@@ -13,9 +13,6 @@ Inv-loop edges unknowns path places n row column literals₀ before at up i₀ c
 abbrev μ-loop : tie.MeasureT-loop
 μ-loop edges unknowns path places n row column literals₀ before at up i₀ count₀ literals i count = n - i
 
-sub-first-places : tie.Need-sub-first-places Inv-loop μ-loop
-sub-first-places c = search needs
-
 first-places-requires : tie.Need-first-places-requires Inv-loop μ-loop
 first-places-requires c κs = (search needs, search (before-within, needs))
 
@@ -31,9 +28,6 @@ loop-holds c = search (rows-begin, needs)
 vertex-of-requires : tie.Need-vertex-of-requires Inv-loop μ-loop
 vertex-of-requires c κs = (search needs, search (places-tested, needs), search needs, search needs)
 
-firsts-requires : tie.Need-firsts-requires Inv-loop μ-loop
-firsts-requires c κs = search needs
-
 sources-requires : tie.Need-sources-requires Inv-loop μ-loop
 sources-requires c κs = (search needs, search needs, search needs, search (first-before, needs), search (first-before, needs), search (first-before, needs))
 
@@ -42,12 +36,6 @@ columns-of-requires c κs = (search needs, search needs, search needs, search ne
 
 write-row-requires : tie.Need-write-row-requires Inv-loop μ-loop
 write-row-requires c κs = (search needs, search (places-tested, needs), search needs, search needs, search (few-before, needs), search (room-for, needs), search needs, search needs)
-
-add-i : tie.Need-add-i Inv-loop μ-loop
-add-i c = search needs
-
-loop-less : tie.Need-loop-less Inv-loop μ-loop
-loop-less c = search needs
 
 loop-again : tie.Need-loop-again Inv-loop μ-loop
 loop-again c = search rows-turn
@@ -60,22 +48,6 @@ returns c = search (rows-done, needs)
 
 pub write-pairs-spec : {M : Type 1} → statement M
 write-pairs-spec =
-    tie.close
-    (tie.spec
-    Inv-loop
-    μ-loop
-    sub-first-places
-    first-places-requires
-    first-places-requires-2
-    first-places-requires-3
-    loop-holds
-    vertex-of-requires
-    firsts-requires
-    sources-requires
-    columns-of-requires
-    write-row-requires
-    add-i
-    loop-less
-    loop-again
-    same-length
-    returns)
+    tie.close (tie.spec Inv-loop μ-loop (λ c. search needs) first-places-requires first-places-requires-2
+    first-places-requires-3 loop-holds vertex-of-requires (λ c κs. search needs) sources-requires columns-of-requires
+    write-row-requires (λ c. search needs) (λ c. search needs) loop-again same-length returns)

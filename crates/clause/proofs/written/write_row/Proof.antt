@@ -12,17 +12,8 @@ Inv-loop edges unknowns places n row column i columns count literals₀ left₀ 
 abbrev μ-loop : tie.MeasureT-loop
 μ-loop edges unknowns places n row column i columns count literals₀ left₀ j₀ m₀ written₀ literals left j m written = n + 1 - j
 
-add-j : tie.Need-add-j Inv-loop μ-loop
-add-j c = search needs
-
-number-of-requires : tie.Need-number-of-requires Inv-loop μ-loop
-number-of-requires c κs = search needs
-
 loop-holds : tie.Need-loop-holds Inv-loop μ-loop
 loop-holds c = search (along-begins, needs)
-
-lowest-requires : tie.Need-lowest-requires Inv-loop μ-loop
-lowest-requires c κs = search needs
 
 add-j-2 : tie.Need-add-j-2 Inv-loop μ-loop
 add-j-2 c = search (column-fits, needs)
@@ -59,22 +50,5 @@ returns c = search (along-done, needs)
 
 pub write-row-spec : {M : Type 1} → statement M
 write-row-spec =
-    tie.close
-    (tie.spec
-    Inv-loop
-    μ-loop
-    add-j
-    number-of-requires
-    loop-holds
-    lowest-requires
-    add-j-2
-    add-m
-    kind-at-requires
-    put-requires
-    shr-left
-    add-j-3
-    add-m-2
-    loop-less
-    loop-again
-    same-length
-    returns)
+    tie.close (tie.spec Inv-loop μ-loop (λ c. search needs) (λ c κs. search needs) loop-holds (λ c κs. search needs)
+    add-j-2 add-m kind-at-requires put-requires shr-left add-j-3 add-m-2 loop-less loop-again same-length returns)

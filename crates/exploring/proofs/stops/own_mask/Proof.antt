@@ -3,12 +3,6 @@ use Rattle.exploring.proofs.CodeStops.{own-first, own-later, own-none}
 use Rattle.exploring.proofs.stops.own_mask.Statement.{statement}
 use Rattle.exploring.proofs.stops.own_mask.Tie as tie
 
-sub-power : tie.Need-sub-power
-sub-power c = search needs
-
-power-requires : tie.Need-power-requires
-power-requires c κs = search needs
-
 returns : tie.Need-returns
 returns c = search (own-first, needs)
 
@@ -19,4 +13,5 @@ returns-3 : tie.Need-returns-3
 returns-3 c = search (own-none, needs)
 
 pub own-mask-spec : {M : Type 1} → statement M
-own-mask-spec = tie.close (tie.spec sub-power power-requires returns returns-2 returns-3)
+own-mask-spec =
+    tie.close (tie.spec (λ c. search needs) (λ c κs. search needs) returns returns-2 returns-3)

@@ -5,15 +5,6 @@ use Rattle.graph.specs.Answers.{countAnswer}
 use Rattle.graph.proofs.Graph.count.Statement.{statement}
 use Rattle.graph.proofs.Graph.count.Tie as tie
 
-is-well-formed-requires : tie.Need-is-well-formed-requires
-is-well-formed-requires c κs = search needs
-
-ones-in-requires : tie.Need-ones-in-requires
-ones-in-requires c κs = search needs
-
-ones-in-requires-2 : tie.Need-ones-in-requires-2
-ones-in-requires-2 c κs = search needs
-
 sub-pairs : tie.Need-sub-pairs
 sub-pairs c = search (order-low, needs)
 
@@ -36,14 +27,5 @@ returns-2 c = search (refused, needs)
 
 pub count-spec : {M : Type 1} → statement M
 count-spec =
-    tie.close
-    (tie.spec
-    is-well-formed-requires
-    ones-in-requires
-    ones-in-requires-2
-    sub-pairs
-    mul-pairs
-    sub-t8
-    sub-t13
-    returns
-    returns-2)
+    tie.close (tie.spec (λ c κs. search needs) (λ c κs. search needs) (λ c κs. search needs) sub-pairs mul-pairs
+    sub-t8 sub-t13 returns returns-2)

@@ -6,12 +6,6 @@ use Rattle.graph.specs.Answers.{degreeAnswer}
 use Rattle.graph.proofs.Graph.count_at.Statement.{statement}
 use Rattle.graph.proofs.Graph.count_at.Tie as tie
 
-is-well-formed-requires : tie.Need-is-well-formed-requires
-is-well-formed-requires c κs = search needs
-
-is-vertex-requires : tie.Need-is-vertex-requires
-is-vertex-requires c κs = search needs
-
 ones-at-requires : tie.Need-ones-at-requires
 ones-at-requires c κs = search (vertex-low, vertex-most, needs)
 
@@ -29,11 +23,4 @@ returns-3 c = search (refused, needs)
 
 pub count-at-spec : {M : Type 1} → statement M
 count-at-spec =
-    tie.close
-    (tie.spec
-    is-well-formed-requires
-    is-vertex-requires
-    ones-at-requires
-    returns
-    returns-2
-    returns-3)
+    tie.close (tie.spec (λ c κs. search needs) (λ c κs. search needs) ones-at-requires returns returns-2 returns-3)

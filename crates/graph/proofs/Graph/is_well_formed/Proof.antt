@@ -4,9 +4,6 @@ use Rattle.pairs.proofs.VertexLaws.{order-most}
 use Rattle.graph.proofs.Graph.is_well_formed.Statement.{statement}
 use Rattle.graph.proofs.Graph.is_well_formed.Tie as tie
 
-order-fits-requires : tie.Need-order-fits-requires
-order-fits-requires c κs = search needs
-
 starts-fit-requires : tie.Need-starts-fit-requires
 starts-fit-requires c κs = search (order-most, needs)
 
@@ -24,11 +21,4 @@ returns-3 c = search (formed-not-order, needs)
 
 pub is-well-formed-spec : {M : Type 1} → statement M
 is-well-formed-spec =
-    tie.close
-    (tie.spec
-    order-fits-requires
-    starts-fit-requires
-    rows-fit-requires
-    returns
-    returns-2
-    returns-3)
+    tie.close (tie.spec (λ c κs. search needs) starts-fit-requires rows-fit-requires returns returns-2 returns-3)

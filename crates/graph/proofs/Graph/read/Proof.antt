@@ -6,12 +6,6 @@ use Rattle.graph.specs.Answers.{readAnswer}
 use Rattle.graph.proofs.Graph.read.Statement.{statement}
 use Rattle.graph.proofs.Graph.read.Tie as tie
 
-is-well-formed-requires : tie.Need-is-well-formed-requires
-is-well-formed-requires c κs = search needs
-
-is-pair-requires : tie.Need-is-pair-requires
-is-pair-requires c κs = search needs
-
 entry-in-requires : tie.Need-entry-in-requires
 entry-in-requires c κs = (search row-low, search row-most, search column-low, search column-most)
 
@@ -29,11 +23,4 @@ returns-3 c = search (refused, needs)
 
 pub read-spec : {M : Type 1} → statement M
 read-spec =
-    tie.close
-    (tie.spec
-    is-well-formed-requires
-    is-pair-requires
-    entry-in-requires
-    returns
-    returns-2
-    returns-3)
+    tie.close (tie.spec (λ c κs. search needs) (λ c κs. search needs) entry-in-requires returns returns-2 returns-3)

@@ -5,9 +5,6 @@ use Rattle.graph.specs.Answers.{relabelAnswer}
 use Rattle.graph.proofs.Graph.relabel.Statement.{statement}
 use Rattle.graph.proofs.Graph.relabel.Tie as tie
 
-is-well-formed-requires : tie.Need-is-well-formed-requires
-is-well-formed-requires c κs = search needs
-
 is-permitted-requires : tie.Need-is-permitted-requires
 is-permitted-requires c κs = search (order-high, needs)
 
@@ -17,28 +14,13 @@ moved-rows-requires c κs = search (order-high, permitted-reorders, needs)
 moved-rows-requires-2 : tie.Need-moved-rows-requires-2
 moved-rows-requires-2 c κs = search (order-high, permitted-reorders, needs)
 
-answer-requires : tie.Need-answer-requires
-answer-requires c κs = search needs
-
 returns : tie.Need-returns
 unfolding relabelAnswer
 returns c = search (passed, relabelled-is, needs)
 
-none-requires : tie.Need-none-requires
-none-requires c κs = search needs
-
-answer-requires-2 : tie.Need-answer-requires-2
-answer-requires-2 c κs = search needs
-
 returns-2 : tie.Need-returns-2
 unfolding relabelAnswer
 returns-2 c = search (refused, passed, refused-graph, needs)
-
-none-requires-2 : tie.Need-none-requires-2
-none-requires-2 c κs = search needs
-
-answer-requires-3 : tie.Need-answer-requires-3
-answer-requires-3 c κs = search needs
 
 returns-3 : tie.Need-returns-3
 unfolding relabelAnswer
@@ -46,17 +28,6 @@ returns-3 c = search (refused, refused-graph, needs)
 
 pub relabel-spec : {M : Type 1} → statement M
 relabel-spec =
-    tie.close
-    (tie.spec
-    is-well-formed-requires
-    is-permitted-requires
-    moved-rows-requires
-    moved-rows-requires-2
-    answer-requires
-    returns
-    none-requires
-    answer-requires-2
-    returns-2
-    none-requires-2
-    answer-requires-3
-    returns-3)
+    tie.close (tie.spec (λ c κs. search needs) is-permitted-requires moved-rows-requires moved-rows-requires-2
+    (λ c κs. search needs) returns (λ c κs. search needs) (λ c κs. search needs) returns-2 (λ c κs. search needs)
+    (λ c κs. search needs) returns-3)

@@ -6,41 +6,23 @@ use Rattle.graph.specs.Answers.{setAnswer}
 use Rattle.graph.proofs.Graph.set.Statement.{statement}
 use Rattle.graph.proofs.Graph.set.Tie as tie
 
-is-well-formed-requires : tie.Need-is-well-formed-requires
-is-well-formed-requires c κs = search needs
-
-is-pair-requires : tie.Need-is-pair-requires
-is-pair-requires c κs = search needs
-
 mark-requires : tie.Need-mark-requires
 mark-requires c κs = (search needs, search needs, search row-low, search row-most, search column-low, search column-most, search apart)
 
 mark-requires-2 : tie.Need-mark-requires-2
 mark-requires-2 c κs = (search needs, search needs, search row-low, search row-most, search column-low, search column-most, search apart)
 
-answer-requires : tie.Need-answer-requires
-answer-requires c κs = search needs
-
 returns : tie.Need-returns
 unfolding setAnswer
 returns c = search (passed, set-is, value-held, needs)
-
-answer-requires-2 : tie.Need-answer-requires-2
-answer-requires-2 c κs = search needs
 
 returns-2 : tie.Need-returns-2
 unfolding setAnswer
 returns-2 c = search (refused, passed, value-failed, needs)
 
-answer-requires-3 : tie.Need-answer-requires-3
-answer-requires-3 c κs = search needs
-
 returns-3 : tie.Need-returns-3
 unfolding setAnswer
 returns-3 c = search (refused, passed, needs)
-
-answer-requires-4 : tie.Need-answer-requires-4
-answer-requires-4 c κs = search needs
 
 returns-4 : tie.Need-returns-4
 unfolding setAnswer
@@ -48,17 +30,6 @@ returns-4 c = search (refused, needs)
 
 pub set-spec : {M : Type 1} → statement M
 set-spec =
-    tie.close
-    (tie.spec
-    is-well-formed-requires
-    is-pair-requires
-    mark-requires
-    mark-requires-2
-    answer-requires
-    returns
-    answer-requires-2
-    returns-2
-    answer-requires-3
-    returns-3
-    answer-requires-4
-    returns-4)
+    tie.close (tie.spec (λ c κs. search needs) (λ c κs. search needs) mark-requires mark-requires-2
+    (λ c κs. search needs) returns (λ c κs. search needs) returns-2 (λ c κs. search needs) returns-3
+    (λ c κs. search needs) returns-4)

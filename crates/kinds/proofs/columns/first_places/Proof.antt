@@ -14,17 +14,8 @@ abbrev μ-loop : tie.MeasureT-loop
 loop-holds : tie.Need-loop-holds Inv-loop μ-loop
 loop-holds c = search (first-none, needs)
 
-element-copy-out-weight-of : tie.Need-element-copy-out-weight-of Inv-loop μ-loop
-element-copy-out-weight-of c = search needs
-
 weight-of-requires : tie.Need-weight-of-requires Inv-loop μ-loop
 weight-of-requires c κs = (search place-low, search place-high)
-
-add-i : tie.Need-add-i Inv-loop μ-loop
-add-i c = search needs
-
-loop-less : tie.Need-loop-less Inv-loop μ-loop
-loop-less c = search needs
 
 loop-again : tie.Need-loop-again Inv-loop μ-loop
 loop-again c = search (first-more, needs)
@@ -34,14 +25,5 @@ returns c = search (first-done, needs)
 
 pub first-places-spec : {M : Type 1} → statement M
 first-places-spec =
-    tie.close
-    (tie.spec
-    Inv-loop
-    μ-loop
-    loop-holds
-    element-copy-out-weight-of
-    weight-of-requires
-    add-i
-    loop-less
-    loop-again
-    returns)
+    tie.close (tie.spec Inv-loop μ-loop loop-holds (λ c. search needs) weight-of-requires (λ c. search needs)
+    (λ c. search needs) loop-again returns)

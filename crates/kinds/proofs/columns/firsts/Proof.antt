@@ -6,12 +6,6 @@ use Rattle.kinds.proofs.columns.firsts.Tie as tie
 returns : tie.Need-returns
 returns c = search (firsts-all, needs)
 
-sub-result : tie.Need-sub-result
-sub-result c = search needs
-
-shr-result : tie.Need-shr-result
-shr-result c = search needs
-
 returns-2 : tie.Need-returns-2
 returns-2 c = search (firsts-some, needs)
 
@@ -19,4 +13,5 @@ returns-3 : tie.Need-returns-3
 returns-3 c = search (firsts-none, needs)
 
 pub firsts-spec : {M : Type 1} → statement M
-firsts-spec = tie.close (tie.spec returns sub-result shr-result returns-2 returns-3)
+firsts-spec =
+    tie.close (tie.spec returns (λ c. search needs) (λ c. search needs) returns-2 returns-3)

@@ -3,18 +3,12 @@ use Rattle.kinds.proofs.KindLaws.{reached-rising, reached-falling}
 use Rattle.kinds.proofs.kind.is_reached_of.Statement.{statement}
 use Rattle.kinds.proofs.kind.is_reached_of.Tie as tie
 
-is-reached-requires : tie.Need-is-reached-requires
-is-reached-requires c κs = search needs
-
 returns : tie.Need-returns
 returns c = search (reached-rising, needs)
-
-is-reached-requires-2 : tie.Need-is-reached-requires-2
-is-reached-requires-2 c κs = search needs
 
 returns-2 : tie.Need-returns-2
 returns-2 c = search (reached-falling, needs)
 
 pub is-reached-of-spec : {M : Type 1} → statement M
 is-reached-of-spec =
-    tie.close (tie.spec is-reached-requires returns is-reached-requires-2 returns-2)
+    tie.close (tie.spec (λ c κs. search needs) returns (λ c κs. search needs) returns-2)

@@ -16,36 +16,6 @@ abbrev μ-loop : tie.MeasureT-loop
 loop-holds : tie.Need-loop-holds Inv-loop μ-loop
 loop-holds c = search (none-yet, needs)
 
-sub-put-record : tie.Need-sub-put-record Inv-loop μ-loop
-sub-put-record c = search needs
-
-part-put-record-start : tie.Need-part-put-record-start Inv-loop μ-loop
-part-put-record-start c = search needs
-
-part-put-record-end : tie.Need-part-put-record-end Inv-loop μ-loop
-part-put-record-end c = search needs
-
-sub-put-record-2 : tie.Need-sub-put-record-2 Inv-loop μ-loop
-sub-put-record-2 c = search needs
-
-part-put-record-start-2 : tie.Need-part-put-record-start-2 Inv-loop μ-loop
-part-put-record-start-2 c = search needs
-
-part-put-record-end-2 : tie.Need-part-put-record-end-2 Inv-loop μ-loop
-part-put-record-end-2 c = search needs
-
-put-record-requires : tie.Need-put-record-requires Inv-loop μ-loop
-put-record-requires c κs = search needs
-
-add-used : tie.Need-add-used Inv-loop μ-loop
-add-used c = search needs
-
-add-n : tie.Need-add-n Inv-loop μ-loop
-add-n c = search needs
-
-same-length : tie.Need-same-length Inv-loop μ-loop
-same-length c = search needs
-
 returns : tie.Need-returns Inv-loop μ-loop
 returns c =
     let turn = c .before .before .before .before .before in
@@ -56,20 +26,11 @@ add-from c =
     let turn = c .before .before .before .before .before .before in
     omega (arith, takes-some _ _ _ _ _ _ _ _ _ (turn .before .before .before .loop .inv .1) (turn .put-record .ensures) (c .before .if1 .left))
 
-same-length-2 : tie.Need-same-length-2 Inv-loop μ-loop
-same-length-2 c = search needs
-
 returns-2 : tie.Need-returns-2 Inv-loop μ-loop
 returns-2 c =
     let fine = c .before .before in
     let turn = fine .before .before .before .before .before in
     ends-here _ _ _ _ _ _ _ _ _ (turn .before .before .before .loop .inv .1) (turn .put-record .ensures) (fine .if1 .left)
-
-sub-if3 : tie.Need-sub-if3 Inv-loop μ-loop
-sub-if3 c = search needs
-
-same-length-3 : tie.Need-same-length-3 Inv-loop μ-loop
-same-length-3 c = search needs
 
 returns-3 : tie.Need-returns-3 Inv-loop μ-loop
 returns-3 c =
@@ -91,27 +52,7 @@ loop-again c =
 
 pub next-part-spec : {M : Type 1} → statement M
 next-part-spec =
-    tie.close
-    (tie.spec
-    Inv-loop
-    μ-loop
-    loop-holds
-    sub-put-record
-    part-put-record-start
-    part-put-record-end
-    sub-put-record-2
-    part-put-record-start-2
-    part-put-record-end-2
-    put-record-requires
-    add-used
-    add-n
-    same-length
-    returns
-    add-from
-    same-length-2
-    returns-2
-    sub-if3
-    same-length-3
-    returns-3
-    loop-less
-    loop-again)
+    tie.close (tie.spec Inv-loop μ-loop loop-holds (λ c. search needs) (λ c. search needs) (λ c. search needs)
+    (λ c. search needs) (λ c. search needs) (λ c. search needs) (λ c κs. search needs) (λ c. search needs)
+    (λ c. search needs) (λ c. search needs) returns add-from (λ c. search needs) returns-2 (λ c. search needs)
+    (λ c. search needs) returns-3 loop-less loop-again)

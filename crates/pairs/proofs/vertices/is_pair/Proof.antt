@@ -4,12 +4,6 @@ use Rattle.pairs.specs.Vertices.{isPair}
 use Rattle.pairs.proofs.vertices.is_pair.Statement.{statement}
 use Rattle.pairs.proofs.vertices.is_pair.Tie as tie
 
-is-vertex-requires : tie.Need-is-vertex-requires
-is-vertex-requires c κs = search needs
-
-is-vertex-requires-2 : tie.Need-is-vertex-requires-2
-is-vertex-requires-2 c κs = search needs
-
 returns : tie.Need-returns
 unfolding isPair
 returns c = search (first-held, needs)
@@ -24,4 +18,4 @@ returns-3 c = search (first-failed, needs)
 
 pub is-pair-spec : {M : Type 1} → statement M
 is-pair-spec =
-    tie.close (tie.spec is-vertex-requires is-vertex-requires-2 returns returns-2 returns-3)
+    tie.close (tie.spec (λ c κs. search needs) (λ c κs. search needs) returns returns-2 returns-3)

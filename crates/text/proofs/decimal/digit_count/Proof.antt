@@ -12,20 +12,8 @@ Inv-loop n k₀ k = (1 ≤ k) × (k ≤ 10) × (fewest (10 - k) k n ≡ fewest 9
 abbrev μ-loop : tie.MeasureT-loop
 μ-loop n k₀ k = 10 - k
 
-loop-holds : tie.Need-loop-holds Inv-loop μ-loop
-loop-holds c = search needs
-
-ten-to-requires : tie.Need-ten-to-requires Inv-loop μ-loop
-ten-to-requires c κs = search needs
-
 returns : tie.Need-returns Inv-loop μ-loop
 returns c = search (fewest-stops, needs)
-
-add-k : tie.Need-add-k Inv-loop μ-loop
-add-k c = search needs
-
-loop-less : tie.Need-loop-less Inv-loop μ-loop
-loop-less c = search needs
 
 loop-again : tie.Need-loop-again Inv-loop μ-loop
 loop-again c = search (fewest-turns, needs)
@@ -35,14 +23,5 @@ returns-2 c = search (fewest-done, needs)
 
 pub digit-count-spec : {M : Type 1} → statement M
 digit-count-spec =
-    tie.close
-    (tie.spec
-    Inv-loop
-    μ-loop
-    loop-holds
-    ten-to-requires
-    returns
-    add-k
-    loop-less
-    loop-again
-    returns-2)
+    tie.close (tie.spec Inv-loop μ-loop (λ c. search needs) (λ c κs. search needs) returns (λ c. search needs)
+    (λ c. search needs) loop-again returns-2)

@@ -3,9 +3,6 @@ use Rattle.text.proofs.Signs.{widens, negates, negative-cast, negative-
 use Rattle.text.proofs.decimal.magnitude.Statement.{statement}
 use Rattle.text.proofs.decimal.magnitude.Tie as tie
 
-is-negative-requires : tie.Need-is-negative-requires
-is-negative-requires c κs = search needs
-
 cast-result : tie.Need-cast-result
 cast-result c = search (widens, needs)
 
@@ -26,12 +23,4 @@ returns-2 c = search (positive-is, needs)
 
 pub magnitude-spec : {M : Type 1} → statement M
 magnitude-spec =
-    tie.close
-    (tie.spec
-    is-negative-requires
-    cast-result
-    sub-result
-    cast-result-2
-    returns
-    cast-result-3
-    returns-2)
+    tie.close (tie.spec (λ c κs. search needs) cast-result sub-result cast-result-2 returns cast-result-3 returns-2)

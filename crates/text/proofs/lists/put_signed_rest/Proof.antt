@@ -16,41 +16,13 @@ Inv-loop out₀ at numbers next₀ i₀ out next i = (length out ≡ length out�
 abbrev μ-loop : tie.MeasureT-loop
 μ-loop out₀ at numbers next₀ i₀ out next i = length numbers - i
 
-loop-holds : tie.Need-loop-holds Inv-loop μ-loop
-loop-holds c = search needs
-
-signed-at-requires : tie.Need-signed-at-requires Inv-loop μ-loop
-signed-at-requires c κs = search needs
-
-put-next-signed-requires : tie.Need-put-next-signed-requires Inv-loop μ-loop
-put-next-signed-requires c κs = search needs
-
-add-i : tie.Need-add-i Inv-loop μ-loop
-add-i c = search needs
-
-loop-less : tie.Need-loop-less Inv-loop μ-loop
-loop-less c = search needs
-
 loop-again : tie.Need-loop-again Inv-loop μ-loop
 loop-again c = search (signed-list-turns, needs)
-
-same-length : tie.Need-same-length Inv-loop μ-loop
-same-length c = search needs
 
 returns : tie.Need-returns Inv-loop μ-loop
 returns c = search (list-done signed (pos 0), needs)
 
 pub put-signed-rest-spec : {M : Type 1} → statement M
 put-signed-rest-spec =
-    tie.close
-    (tie.spec
-    Inv-loop
-    μ-loop
-    loop-holds
-    signed-at-requires
-    put-next-signed-requires
-    add-i
-    loop-less
-    loop-again
-    same-length
-    returns)
+    tie.close (tie.spec Inv-loop μ-loop (λ c. search needs) (λ c κs. search needs) (λ c κs. search needs)
+    (λ c. search needs) (λ c. search needs) loop-again (λ c. search needs) returns)

@@ -6,11 +6,9 @@ use Rattle.text.proofs.parts.first_bytes.Tie as tie
 slice-aggregate-result : tie.Need-slice-aggregate-result
 slice-aggregate-result c = search (taken-long, needs)
 
-returns : tie.Need-returns
-returns c = search needs
-
 returns-2 : tie.Need-returns-2
 returns-2 c = search (taken-whole, needs)
 
 pub first-bytes-spec : {M : Type 1} → statement M
-first-bytes-spec = tie.close (tie.spec slice-aggregate-result returns returns-2)
+first-bytes-spec =
+    tie.close (tie.spec slice-aggregate-result (λ c. search needs) returns-2)

@@ -3,17 +3,8 @@ use Rattle.turns.proofs.AlikeRows.{power-some, alike-none, alike-not, a
 use Rattle.turns.proofs.walked.is_alike.Statement.{statement}
 use Rattle.turns.proofs.walked.is_alike.Tie as tie
 
-shr-after : tie.Need-shr-after
-shr-after c = search needs
-
 returns : tie.Need-returns
 returns c = alike-none _ _ _ _ _ (c .if1 .taken)
-
-sub-power : tie.Need-sub-power
-sub-power c = search needs
-
-power-requires : tie.Need-power-requires
-power-requires c κs = search needs
 
 sub-result : tie.Need-sub-result
 sub-result c = search (power-some, needs)
@@ -26,4 +17,5 @@ returns-3 c = alike-not _ _ _ _ _
 
 pub is-alike-spec : {M : Type 1} → statement M
 is-alike-spec =
-    tie.close (tie.spec shr-after returns sub-power power-requires sub-result returns-2 returns-3)
+    tie.close (tie.spec (λ c. search needs) returns (λ c. search needs) (λ c κs. search needs) sub-result returns-2
+    returns-3)

@@ -14,12 +14,6 @@ Inv-loop edges unknowns path n all later₀ i₀ later i = (3 ≤ i) × Later n 
 abbrev μ-loop : tie.MeasureT-loop
 μ-loop edges unknowns path n all later₀ i₀ later i = n - i
 
-sub-without-place : tie.Need-sub-without-place Inv-loop μ-loop
-sub-without-place c = search needs
-
-shr-without-place : tie.Need-shr-without-place Inv-loop μ-loop
-shr-without-place c = search needs
-
 without-place-requires : tie.Need-without-place-requires Inv-loop μ-loop
 without-place-requires c κs = (search needs, search needs, search (early-low, needs), search (early-high, needs))
 
@@ -35,12 +29,6 @@ without-place-requires-3 c κs = (search needs, search needs, search row-low, se
 row-walk-requires : tie.Need-row-walk-requires Inv-loop μ-loop
 row-walk-requires c κs = (search needs, search needs, search needs, search needs, search later-more)
 
-add-i : tie.Need-add-i Inv-loop μ-loop
-add-i c = search needs
-
-loop-less : tie.Need-loop-less Inv-loop μ-loop
-loop-less c = search needs
-
 loop-again : tie.Need-loop-again Inv-loop μ-loop
 loop-again c = (search needs, search later-again, search rows-go-on)
 
@@ -52,19 +40,6 @@ returns-2 c = search (rows-over, needs)
 
 pub later-rows-spec : {M : Type 1} → statement M
 later-rows-spec =
-    tie.close
-    (tie.spec
-    Inv-loop
-    μ-loop
-    sub-without-place
-    shr-without-place
-    without-place-requires
-    without-place-requires-2
-    loop-holds
-    without-place-requires-3
-    row-walk-requires
-    add-i
-    loop-less
-    loop-again
-    returns
-    returns-2)
+    tie.close (tie.spec Inv-loop μ-loop (λ c. search needs) (λ c. search needs) without-place-requires
+    without-place-requires-2 loop-holds without-place-requires-3 row-walk-requires (λ c. search needs)
+    (λ c. search needs) loop-again returns returns-2)

@@ -13,32 +13,11 @@ Inv-loop edges unknowns path n i u ones marks j₀ j = (1 ≤ j) × (j ≤ n + 1
 abbrev μ-loop : tie.MeasureT-loop
 μ-loop edges unknowns path n i u ones marks j₀ j = n + 1 - j
 
-vertex-at-requires : tie.Need-vertex-at-requires Inv-loop μ-loop
-vertex-at-requires c κs = search needs
-
-edges-of-requires : tie.Need-edges-of-requires Inv-loop μ-loop
-edges-of-requires c κs = search needs
-
 marks-of-requires : tie.Need-marks-of-requires Inv-loop μ-loop
 marks-of-requires c κs = (search earlier-low, search earlier-high)
 
-add-j : tie.Need-add-j Inv-loop μ-loop
-add-j c = search needs
-
-loop-holds : tie.Need-loop-holds Inv-loop μ-loop
-loop-holds c = search needs
-
-vertex-at-requires-2 : tie.Need-vertex-at-requires-2 Inv-loop μ-loop
-vertex-at-requires-2 c κs = search needs
-
 turn-by-requires : tie.Need-turn-by-requires Inv-loop μ-loop
 turn-by-requires c κs = (search needs, search needs, search vertex-low, search vertex-high)
-
-add-j-2 : tie.Need-add-j-2 Inv-loop μ-loop
-add-j-2 c = search needs
-
-loop-less : tie.Need-loop-less Inv-loop μ-loop
-loop-less c = search needs
 
 loop-again : tie.Need-loop-again Inv-loop μ-loop
 loop-again c = (search needs, search needs, search (row-goes-on, turn-is))
@@ -51,19 +30,6 @@ returns-2 c = search (row-over, needs)
 
 pub pairs-walk-spec : {M : Type 1} → statement M
 pairs-walk-spec =
-    tie.close
-    (tie.spec
-    Inv-loop
-    μ-loop
-    vertex-at-requires
-    edges-of-requires
-    marks-of-requires
-    add-j
-    loop-holds
-    vertex-at-requires-2
-    turn-by-requires
-    add-j-2
-    loop-less
-    loop-again
-    returns
-    returns-2)
+    tie.close (tie.spec Inv-loop μ-loop (λ c κs. search needs) (λ c κs. search needs) marks-of-requires
+    (λ c. search needs) (λ c. search needs) (λ c κs. search needs) turn-by-requires (λ c. search needs)
+    (λ c. search needs) loop-again returns returns-2)
