@@ -71,7 +71,8 @@ module _ (s m z : ℕ) (h : Folds s m) (apart : Apart s z) where
       ∙ omega (arith, h .marks p l, stays, bit-of-or (z * 2 ^ s % 2 ^ 64) (z / 2 ^ (2 * s)) p, bit-of-cut (z * 2 ^ s) 64 p l, bit-of-up z s (4 * s * a + r), b)
 
   -- as one law, b the side that it comes from
-  moves : (a b r : ℕ) → b ≤ 1 → r < s → s + (4 * s * a + r) < 64 → bit (fold s m z) (s * (1 - b) + (4 * s * a + r)) ≡ bit z (2 * s * b + (4 * s * a + r))
+  moves : (a b r : ℕ) → b ≤ 1 → r < s → s + (4 * s * a + r) < 64
+      → bit (fold s m z) (s * (1 - b) + (4 * s * a + r)) ≡ bit z (2 * s * b + (4 * s * a + r))
   moves a b r lb lr l =
       by-same b 0
       (λ e. let x : s * 1 + (4 * s * a + r) ≡ s + (4 * s * a + r) = omega arith in
@@ -93,7 +94,8 @@ module _ (s m z : ℕ) (h : Folds s m) (apart : Apart s z) where
 abbrev marked : ℕ → ℕ → ℕ → Bool
 marked s m p = eqb (bit m (p - 1)) (1 - side (2 * s) (p - 1))
 
-folds : (s m : ℕ) → allUpTo (marked s m) 64 ≡ true → m < 2 ^ 64 → ((p : ℕ) → side s (s + p) ≡ 1 - side s p) → ((p : ℕ) → side s (2 * s + p) ≡ side s p)
+folds : (s m : ℕ) → allUpTo (marked s m) 64 ≡ true → m < 2 ^ 64 → ((p : ℕ) → side s (s + p) ≡ 1 - side s p)
+    → ((p : ℕ) → side s (2 * s + p) ≡ side s p)
     → ((a r : ℕ) → r < s → side s (4 * s * a + r) ≡ 0) → ((a r : ℕ) → r < 2 * s → side (2 * s) (4 * s * a + r) ≡ 0) → Folds s m
 folds s m t small across twice first kept =
     record {
@@ -158,7 +160,9 @@ module _ (z k : ℕ) (l : k < 32) where
       let c : k % 2 ≡ 1 * (k / 1 % 2) + k % 1 = omega arith in
       let to : 4 * (k / 2) + (1 - k % 2) ≡ 1 * (1 - k / 1 % 2) + (4 * 1 * (k / 2) + (0 - k % 1)) = omega arith in
       let from : 2 * 1 * (k / 1 % 2) + (4 * 1 * (k / 2) + (0 - k % 1)) ≡ 2 * k = omega arith in
-      ap (bit (fold 1 0x3333333333333333 z)) to ∙ moves 1 0x3333333333333333 z folds-1 a (k / 2) (k / 1 % 2) (0 - k % 1) (omega arith) (omega arith) (omega arith) ∙ ap (bit z) from
+      ap (bit (fold 1 0x3333333333333333 z)) to
+      ∙ moves 1 0x3333333333333333 z folds-1 a (k / 2) (k / 1 % 2) (0 - k % 1) (omega arith) (omega arith) (omega arith)
+      ∙ ap (bit z) from
 
   after-2 : Apart 2 z → bit (fold 2 0x0f0f0f0f0f0f0f0f z) (8 * (k / 4) + (3 - k % 4)) ≡ bit z (4 * (k / 2) + (1 - k % 2))
   after-2 a =
@@ -166,7 +170,9 @@ module _ (z k : ℕ) (l : k < 32) where
       let c : k % 4 ≡ 2 * (k / 2 % 2) + k % 2 = omega arith in
       let to : 8 * (k / 4) + (3 - k % 4) ≡ 2 * (1 - k / 2 % 2) + (4 * 2 * (k / 4) + (1 - k % 2)) = omega arith in
       let from : 2 * 2 * (k / 2 % 2) + (4 * 2 * (k / 4) + (1 - k % 2)) ≡ 4 * (k / 2) + (1 - k % 2) = omega arith in
-      ap (bit (fold 2 0x0f0f0f0f0f0f0f0f z)) to ∙ moves 2 0x0f0f0f0f0f0f0f0f z folds-2 a (k / 4) (k / 2 % 2) (1 - k % 2) (omega arith) (omega arith) (omega arith) ∙ ap (bit z) from
+      ap (bit (fold 2 0x0f0f0f0f0f0f0f0f z)) to
+      ∙ moves 2 0x0f0f0f0f0f0f0f0f z folds-2 a (k / 4) (k / 2 % 2) (1 - k % 2) (omega arith) (omega arith) (omega arith)
+      ∙ ap (bit z) from
 
   after-4 : Apart 4 z → bit (fold 4 0x00ff00ff00ff00ff z) (16 * (k / 8) + (7 - k % 8)) ≡ bit z (8 * (k / 4) + (3 - k % 4))
   after-4 a =
@@ -174,7 +180,9 @@ module _ (z k : ℕ) (l : k < 32) where
       let c : k % 8 ≡ 4 * (k / 4 % 2) + k % 4 = omega arith in
       let to : 16 * (k / 8) + (7 - k % 8) ≡ 4 * (1 - k / 4 % 2) + (4 * 4 * (k / 8) + (3 - k % 4)) = omega arith in
       let from : 2 * 4 * (k / 4 % 2) + (4 * 4 * (k / 8) + (3 - k % 4)) ≡ 8 * (k / 4) + (3 - k % 4) = omega arith in
-      ap (bit (fold 4 0x00ff00ff00ff00ff z)) to ∙ moves 4 0x00ff00ff00ff00ff z folds-4 a (k / 8) (k / 4 % 2) (3 - k % 4) (omega arith) (omega arith) (omega arith) ∙ ap (bit z) from
+      ap (bit (fold 4 0x00ff00ff00ff00ff z)) to
+      ∙ moves 4 0x00ff00ff00ff00ff z folds-4 a (k / 8) (k / 4 % 2) (3 - k % 4) (omega arith) (omega arith) (omega arith)
+      ∙ ap (bit z) from
 
   after-8 : Apart 8 z → bit (fold 8 0x0000ffff0000ffff z) (32 * (k / 16) + (15 - k % 16)) ≡ bit z (16 * (k / 8) + (7 - k % 8))
   after-8 a =
@@ -182,7 +190,9 @@ module _ (z k : ℕ) (l : k < 32) where
       let c : k % 16 ≡ 8 * (k / 8 % 2) + k % 8 = omega arith in
       let to : 32 * (k / 16) + (15 - k % 16) ≡ 8 * (1 - k / 8 % 2) + (4 * 8 * (k / 16) + (7 - k % 8)) = omega arith in
       let from : 2 * 8 * (k / 8 % 2) + (4 * 8 * (k / 16) + (7 - k % 8)) ≡ 16 * (k / 8) + (7 - k % 8) = omega arith in
-      ap (bit (fold 8 0x0000ffff0000ffff z)) to ∙ moves 8 0x0000ffff0000ffff z folds-8 a (k / 16) (k / 8 % 2) (7 - k % 8) (omega arith) (omega arith) (omega arith) ∙ ap (bit z) from
+      ap (bit (fold 8 0x0000ffff0000ffff z)) to
+      ∙ moves 8 0x0000ffff0000ffff z folds-8 a (k / 16) (k / 8 % 2) (7 - k % 8) (omega arith) (omega arith) (omega arith)
+      ∙ ap (bit z) from
 
   after-16 : Apart 16 z → bit (fold 16 0x00000000ffffffff z) (31 - k) ≡ bit z (32 * (k / 16) + (15 - k % 16))
   after-16 a =
@@ -190,9 +200,12 @@ module _ (z k : ℕ) (l : k < 32) where
       let c : k % 32 ≡ 16 * (k / 16 % 2) + k % 16 = omega arith in
       let to : 31 - k ≡ 16 * (1 - k / 16 % 2) + (4 * 16 * (k / 32) + (15 - k % 16)) = omega arith in
       let from : 2 * 16 * (k / 16 % 2) + (4 * 16 * (k / 32) + (15 - k % 16)) ≡ 32 * (k / 16) + (15 - k % 16) = omega arith in
-      ap (bit (fold 16 0x00000000ffffffff z)) to ∙ moves 16 0x00000000ffffffff z folds-16 a (k / 32) (k / 16 % 2) (15 - k % 16) (omega arith) (omega arith) (omega arith) ∙ ap (bit z) from
+      ap (bit (fold 16 0x00000000ffffffff z)) to
+      ∙ moves 16 0x00000000ffffffff z folds-16 a (k / 32) (k / 16 % 2) (15 - k % 16) (omega arith) (omega arith) (omega arith)
+      ∙ ap (bit z) from
 
-pub gathered-is : (x a b c d r : ℕ) → a ≡ fold 1 0x3333333333333333 (bitAnd x 0x5555555555555555) → b ≡ fold 2 0x0f0f0f0f0f0f0f0f a → c ≡ fold 4 0x00ff00ff00ff00ff b
+pub gathered-is : (x a b c d r : ℕ) → a ≡ fold 1 0x3333333333333333 (bitAnd x 0x5555555555555555)
+    → b ≡ fold 2 0x0f0f0f0f0f0f0f0f a → c ≡ fold 4 0x00ff00ff00ff00ff b
     → d ≡ fold 8 0x0000ffff0000ffff c → r ≡ fold 16 0x00000000ffffffff d → r ≡ num (every 0 x) 0 32
 unfolding every
 gathered-is x a b c d r is-a is-b is-c is-d is-r =

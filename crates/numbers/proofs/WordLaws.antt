@@ -44,7 +44,8 @@ pub times-fit : (s : List ℕ) (k t made : ℕ) → made ≡ num (bitOf s) (8 * 
 times-fit s k t made is-made l =
     record { fits = omega (arith, is-made, num-below (bitOf s) (bit-small s) (8 * k) (8 * t), pow-mono {i = 8 * t} {j = 56} (omega arith)) }
 
-pub bytes-done : (s : List ℕ) (k t made : ℕ) → made ≡ num (bitOf s) (8 * k) (8 * t) → t ≤ 8 → 8 ≤ t → made ≡ num (bitOf s) (8 * k) 64
+pub bytes-done : (s : List ℕ) (k t made : ℕ) → made ≡ num (bitOf s) (8 * k) (8 * t) → t ≤ 8 → 8 ≤ t
+    → made ≡ num (bitOf s) (8 * k) 64
 bytes-done s k t made is-made a b = let e : 8 * t ≡ 64 = omega arith in is-made ∙ ap (num (bitOf s) (8 * k)) e
 
 -- ---- eight bytes side by side
@@ -74,7 +75,8 @@ module _ (s : List ℕ) (k a b c d e f g h : ℕ) (is-a : a ≡ getD s k 0) (is-
       is-h lh))
 
 -- what is shifted out is cut off
-moved : (f : ℕ → ℕ) → ((k : ℕ) → f k < 2) → (a p q w : ℕ) → w ≡ num f a (p + q) → w * 2 ^ p % 2 ^ (q + p) ≡ num f (a + p) q * 2 ^ p
+moved : (f : ℕ → ℕ) → ((k : ℕ) → f k < 2) → (a p q w : ℕ) → w ≡ num f a (p + q)
+    → w * 2 ^ p % 2 ^ (q + p) ≡ num f (a + p) q * 2 ^ p
 moved f small a p q w is-w =
     mod-pow-add (w * 2 ^ p) q p
     ∙ ap₂ (λ (x y : ℕ). x % 2 ^ q * 2 ^ p + y) (shl-shr w p) (mul-mod-left w (2 ^ p))
@@ -89,18 +91,21 @@ pub nothing-past : (s : List ℕ) (k : ℕ) → length s ≤ k → 0 ≡ num (bi
 nothing-past s k h = sym (zeros-past s (8 * k) 64 (omega arith))
 
 -- the last eight bytes, moved up to where byte k is the first
-pub last-moved : (s : List ℕ) (k w : ℕ) → w ≡ num (bitOf s) (8 * (length s - 8)) 64 → 8 ≤ length s → k < length s → length s < k + 8
+pub last-moved : (s : List ℕ) (k w : ℕ) → w ≡ num (bitOf s) (8 * (length s - 8)) 64 → 8 ≤ length s → k < length s
+    → length s < k + 8
     → w * 2 ^ (8 * (k + 8 - length s)) % 2 ^ 64 ≡ num (bitOf s) (8 * k) 64
 last-moved s k w is-w some inside short = go (8 * (k + 8 - length s)) (64 - 8 * (k + 8 - length s)) (omega arith) (omega arith) (omega arith)
   where
-    go : (p q : ℕ) → p + q ≡ 64 → 8 * (length s - 8) + p ≡ 8 * k → 8 * k + q ≡ 8 * length s → w * 2 ^ p % 2 ^ 64 ≡ num (bitOf s) (8 * k) 64
+    go : (p q : ℕ) → p + q ≡ 64 → 8 * (length s - 8) + p ≡ 8 * k → 8 * k + q ≡ 8 * length s
+        → w * 2 ^ p % 2 ^ 64 ≡ num (bitOf s) (8 * k) 64
     go p q e at end =
         let e′ : q + p ≡ 64 = omega arith in
         ap (λ (n : ℕ). w * 2 ^ p % 2 ^ n) (sym e′)
         ∙ moved (bitOf s) (bit-small s) (8 * (length s - 8)) p q w (is-w ∙ ap (num (bitOf s) (8 * (length s - 8))) (sym e))
         ∙ ap (λ (a : ℕ). num (bitOf s) a q * 2 ^ p) at
         ∙ sym (ap (num (bitOf s) (8 * k)) (sym e′) ∙ num-append (bitOf s) (8 * k) q p
-        ∙ ap (λ (x : ℕ). num (bitOf s) (8 * k) q * 2 ^ p + x) (zeros-past s (8 * k + q) p (omega arith)) ∙ add-zero (num (bitOf s) (8 * k) q * 2 ^ p))
+        ∙ ap (λ (x : ℕ). num (bitOf s) (8 * k) q * 2 ^ p + x) (zeros-past s (8 * k + q) p (omega arith))
+        ∙ add-zero (num (bitOf s) (8 * k) q * 2 ^ p))
 
 -- ---- from any place
 
@@ -111,7 +116,8 @@ module _ (s : List ℕ) (place w b : ℕ) (is-w : w ≡ num (bitOf s) (8 * (plac
   whole-is : whole ≡ num (bitOf s) place 64
   whole-is = go (place % 8) (64 - place % 8) (omega arith) (omega arith) (omega arith) refl
     where
-      go : (p q : ℕ) → p < 8 → p + q ≡ 64 → 8 * (place / 8) + p ≡ place → p ≡ place % 8 → w * 2 ^ p % 2 ^ 64 + b / 2 ^ (8 - p) ≡ num (bitOf s) place 64
+      go : (p q : ℕ) → p < 8 → p + q ≡ 64 → 8 * (place / 8) + p ≡ place → p ≡ place % 8
+          → w * 2 ^ p % 2 ^ 64 + b / 2 ^ (8 - p) ≡ num (bitOf s) place 64
       go p q l e at is-p =
           let e′ : q + p ≡ 64 = omega arith in
           let on : place + q ≡ 8 * (place / 8 + 8) = omega arith in
@@ -122,9 +128,11 @@ module _ (s : List ℕ) (place w b : ℕ) (is-w : w ≡ num (bitOf s) (8 * (plac
   pub whole-fits : Fits w64 (w * 2 ^ (place % 8) % 2 ^ 64 + b / 2 ^ (8 - place % 8))
   whole-fits = record { fits = rw whole-is (num-below (bitOf s) (bit-small s) place 64) }
 
-  pub bits-are : (width : ℕ) → width ≤ 62 → (w * 2 ^ (place % 8) % 2 ^ 64 + b / 2 ^ (8 - place % 8)) / 2 / 2 ^ (63 - width) ≡ num (bitOf s) place width
+  pub bits-are : (width : ℕ) → width ≤ 62
+      → (w * 2 ^ (place % 8) % 2 ^ 64 + b / 2 ^ (8 - place % 8)) / 2 / 2 ^ (63 - width) ≡ num (bitOf s) place width
   bits-are width l =
       let e : 1 + (63 - width) ≡ 64 - width = omega arith in
       let d : 64 ≡ width + (64 - width) = omega arith in
       shr-shr whole 1 (63 - width) ∙ ap (λ (k : ℕ). whole / 2 ^ k) e
-      ∙ ap (λ (x : ℕ). x / 2 ^ (64 - width)) (whole-is ∙ ap (num (bitOf s) place) d) ∙ num-top (bitOf s) (bit-small s) place width (64 - width)
+      ∙ ap (λ (x : ℕ). x / 2 ^ (64 - width)) (whole-is ∙ ap (num (bitOf s) place) d)
+      ∙ num-top (bitOf s) (bit-small s) place width (64 - width)

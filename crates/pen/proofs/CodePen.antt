@@ -31,11 +31,13 @@ pub store-starts : (o : List ℕ) (at word : ℕ) → o ≡ stored o at word 0
 unfolding stored
 store-starts o at word = refl
 
-pub store-turns : (o out : List ℕ) (at word t : ℕ) → out ≡ stored o at word t → set out (at + t) (word / 2 ^ (56 - 8 * t) % 256) ≡ stored o at word (t + 1)
+pub store-turns : (o out : List ℕ) (at word t : ℕ) → out ≡ stored o at word t
+    → set out (at + t) (word / 2 ^ (56 - 8 * t) % 256) ≡ stored o at word (t + 1)
 unfolding stored
 store-turns o out at word t h = rw (add-one t, h)
 
-pub store-done : (o out : List ℕ) (at word t count : ℕ) → out ≡ stored o at word t → t ≤ count → count ≤ t → out ≡ stored o at word count
+pub store-done : (o out : List ℕ) (at word t count : ℕ) → out ≡ stored o at word t → t ≤ count → count ≤ t
+    → out ≡ stored o at word count
 store-done o out at word t count h a b = let q : t ≡ count = omega arith in h ∙ ap (stored o at word) q
 
 -- the buffer stays as long as it was
@@ -47,7 +49,8 @@ stored-long o at word (suc t) = length-set (stored o at word t) (at + t) (word /
 pub stored-kept : (o out : List ℕ) (at word t : ℕ) → out ≡ stored o at word t → length out ≡ length o
 stored-kept o out at word t h = ap length h ∙ stored-long o at word t
 
-pub store-room : (o out : List ℕ) (at word t count : ℕ) → out ≡ stored o at word t → t < count → at + count ≤ length o → at + t < length out
+pub store-room : (o out : List ℕ) (at word t count : ℕ) → out ≡ stored o at word t → t < count → at + count ≤ length o
+    → at + t < length out
 store-room o out at word t count h l room = rw h (omega (arith, stored-long o at word t))
 
 -- ---- a field
@@ -74,7 +77,12 @@ module _ (p : Pen) (v w : ℕ) (few : p .have < 64) (small : p .kept < 2 ^ p .ha
     pub push-waits : (o : List ℕ) → IsPushed o p v w o (pen (p .stored) (p .have + w) (p .kept * 2 ^ w % 2 ^ 64 + v))
     unfolding pick
     push-waits o =
-        record { is-stored = rw (lt-ltb (p .have + w) 64 l); is-have = rw (lt-ltb (p .have + w) 64 l); is-kept = rw (lt-ltb (p .have + w) 64 l, kept-moved); is-out = rw (lt-ltb (p .have + w) 64 l) }
+        record {
+          is-stored = rw (lt-ltb (p .have + w) 64 l);
+          is-have = rw (lt-ltb (p .have + w) 64 l);
+          is-kept = rw (lt-ltb (p .have + w) 64 l, kept-moved);
+          is-out = rw (lt-ltb (p .have + w) 64 l);
+        }
 
   -- eight bytes are stored
   module _ (l : 64 ≤ p .have + w) where
@@ -90,7 +98,9 @@ module _ (p : Pen) (v w : ℕ) (few : p .have < 64) (small : p .kept < 2 ^ p .ha
     word-fits =
         record { fits = rw word-moved (lt-of-lt-of-le (put-before (p .kept) (p .have) (64 - p .have) (v / 2 ^ (p .have + w - 64)) small top-small) (pow-mono {j = 64} (omega arith))) }
 
-    pub push-stores : (o o′ : List ℕ) (q : ℕ) → o′ ≡ stored o (p .stored) (p .kept * 2 ^ (64 - p .have) % 2 ^ 64 + v / 2 ^ (p .have + w - 64)) 8 → q ≡ 2 ^ (p .have + w - 64)
+    pub push-stores : (o o′ : List ℕ) (q : ℕ)
+        → o′ ≡ stored o (p .stored) (p .kept * 2 ^ (64 - p .have) % 2 ^ 64 + v / 2 ^ (p .have + w - 64)) 8
+        → q ≡ 2 ^ (p .have + w - 64)
         → IsPushed o p v w o′ (pen (p .stored + 8) (p .have + w - 64) (v % q))
     unfolding pick
     push-stores o o′ q is-o e =

@@ -24,7 +24,8 @@ use Rattle.reading.specs.Lines.{markIn, lineIn, linesIn}
 use Rattle.reading.proofs.LineLaws.{mark-small}
 
 -- what h makes of a mirrored table is what it makes of each entry, mirrored
-mirrored-through : (h : ℕ → ℕ) (e d : ℕ → ℕ → ℕ) → h 0 ≡ 0 → ((i j : ℕ) → d i j ≡ h (e i j)) → (i j : ℕ) → mirrored d i j ≡ h (mirrored e i j)
+mirrored-through : (h : ℕ → ℕ) (e d : ℕ → ℕ → ℕ) → h 0 ≡ 0 → ((i j : ℕ) → d i j ≡ h (e i j)) → (i j : ℕ)
+    → mirrored d i j ≡ h (mirrored e i j)
 unfolding mirrored pick
 mirrored-through h e d zeros each i j = go (ltb i j) (ltb j i)
   where
@@ -55,7 +56,8 @@ module _ (f : ℕ → ℕ) (small : (k : ℕ) → f k < 2) (n : ℕ) (short : n 
       (λ j l m. mirrored-through h (entryIn f n) (markIn f n d) zeros each i j))
 
 -- the graph by its lines
-pub graph-lines : (s : List ℕ) (n w : ℕ) (above-us above-es us es : List ℕ) → orderIn (bitOf s) ≤ 32 → n ≡ orderIn (bitOf s) → w ≡ startsIn (bitOf s) n
+pub graph-lines : (s : List ℕ) (n w : ℕ) (above-us above-es us es : List ℕ) → orderIn (bitOf s) ≤ 32
+    → n ≡ orderIn (bitOf s) → w ≡ startsIn (bitOf s) n
     → above-us ≡ linesIn (bitOf s) n 0 → above-es ≡ linesIn (bitOf s) n 1
     → es ≡ placed (inBothHalves above-es) 32 → us ≡ placed (inBothHalves above-us) 32
     → record { order = n; edges = es; unknowns = us; starts = w } ≡ graphIn (bitOf s)

@@ -27,7 +27,8 @@ use Rattle.reading.specs.Lines.{markIn, lineIn, linesIn, LineFrom}
 use Rattle.reading.proofs.EveryLaws.{every-small, moved-below}
 
 -- the number stands where the row starts
-pub entries-are : (f : ℕ → ℕ) (n i place x : ℕ) → place ≡ cell n i (i + 1) → x ≡ num f place (2 * (n - i)) → x ≡ num f (cell n i (i + 1)) (2 * (n - i))
+pub entries-are : (f : ℕ → ℕ) (n i place x : ℕ) → place ≡ cell n i (i + 1) → x ≡ num f place (2 * (n - i))
+    → x ≡ num f (cell n i (i + 1)) (2 * (n - i))
 entries-are f n i place x is-place is-x = rw (← is-place) is-x
 
 module _ (f : ℕ → ℕ) (small : (k : ℕ) → f k < 2) (n : ℕ) where
@@ -104,16 +105,20 @@ pub lines-room : (f : ℕ → ℕ) (n i : ℕ) (out : List ℕ) → out ≡ plac
 lines-room f n i out e l h = rw e (omega (arith, placed-length f i (omega arith)))
 
 -- one line more
-pub lines-turn : (s : List ℕ) (n i x d v : ℕ) (out : List ℕ) → out ≡ placed (lineIn (bitOf s) n d) i → x ≡ num (bitOf s) (cell n (i + 1) (i + 1 + 1)) (2 * (n - (i + 1)))
-    → v ≡ num (every (1 - d) x) 0 (n - (i + 1)) * 2 ^ (i + 1) → d ≤ 1 → i < n → n ≤ 32 → set out i v ≡ placed (lineIn (bitOf s) n d) (i + 1)
+pub lines-turn : (s : List ℕ) (n i x d v : ℕ) (out : List ℕ) → out ≡ placed (lineIn (bitOf s) n d) i
+    → x ≡ num (bitOf s) (cell n (i + 1) (i + 1 + 1)) (2 * (n - (i + 1)))
+    → v ≡ num (every (1 - d) x) 0 (n - (i + 1)) * 2 ^ (i + 1) → d ≤ 1 → i < n → n ≤ 32
+    → set out i v ≡ placed (lineIn (bitOf s) n d) (i + 1)
 lines-turn s n i x d v out is-out is-x is-v ld l h =
     placed-turns (lineIn (bitOf s) n d) i v n out is-out (is-v ∙ line-is (bitOf s) (bit-small s) n (i + 1) x (omega arith) (omega arith) is-x d ld) l h
 
-pub unknowns-turn : (s : List ℕ) (n i x : ℕ) (line : Line) (out : List ℕ) → out ≡ placed (lineIn (bitOf s) n 0) i → x ≡ num (bitOf s) (cell n (i + 1) (i + 1 + 1)) (2 * (n - (i + 1)))
+pub unknowns-turn : (s : List ℕ) (n i x : ℕ) (line : Line) (out : List ℕ) → out ≡ placed (lineIn (bitOf s) n 0) i
+    → x ≡ num (bitOf s) (cell n (i + 1) (i + 1 + 1)) (2 * (n - (i + 1)))
     → LineFrom x (n - (i + 1)) (i + 1) line → i < n → n ≤ 32 → set out i (line .unknowns) ≡ placed (lineIn (bitOf s) n 0) (i + 1)
 unknowns-turn s n i x line out is-out is-x is-line l h = lines-turn s n i x 0 (line .unknowns) out is-out is-x (is-line .unknowns) (omega arith) l h
 
-pub edges-turn : (s : List ℕ) (n i x : ℕ) (line : Line) (out : List ℕ) → out ≡ placed (lineIn (bitOf s) n 1) i → x ≡ num (bitOf s) (cell n (i + 1) (i + 1 + 1)) (2 * (n - (i + 1)))
+pub edges-turn : (s : List ℕ) (n i x : ℕ) (line : Line) (out : List ℕ) → out ≡ placed (lineIn (bitOf s) n 1) i
+    → x ≡ num (bitOf s) (cell n (i + 1) (i + 1 + 1)) (2 * (n - (i + 1)))
     → LineFrom x (n - (i + 1)) (i + 1) line → i < n → n ≤ 32 → set out i (line .edges) ≡ placed (lineIn (bitOf s) n 1) (i + 1)
 edges-turn s n i x line out is-out is-x is-line l h = lines-turn s n i x 1 (line .edges) out is-out is-x (is-line .edges) (omega arith) l h
 

@@ -45,10 +45,12 @@ start-is s n x v is-x low high =
     ∙ start-later (bitOf s) v (x / 2 ^ (n - v) % 2) d
     (rw (is-x, k) (num-bit (bitOf s) (bit-small s) 6 (n - 1) (v - 2) (omega arith))))
 
-pub start-more : (x n v w b r : ℕ) → w ≡ wordUpTo (startBy x n) v → b ≡ startBy x n (v + 1) → r ≡ b * 2 ^ v → w + r ≡ wordUpTo (startBy x n) (v + 1)
+pub start-more : (x n v w b r : ℕ) → w ≡ wordUpTo (startBy x n) v → b ≡ startBy x n (v + 1) → r ≡ b * 2 ^ v
+    → w + r ≡ wordUpTo (startBy x n) (v + 1)
 start-more x n v w b r is-w is-b is-r = word-turns (startBy x n) v w r is-w (is-r ∙ ap (λ (y : ℕ). y * 2 ^ v) is-b)
 
-pub starts-done : (s : List ℕ) (n x v w : ℕ) → x ≡ num (bitOf s) 6 (n - 1) → w ≡ wordUpTo (startBy x n) v → v ≤ n → n ≤ v → w ≡ startsIn (bitOf s) n
+pub starts-done : (s : List ℕ) (n x v w : ℕ) → x ≡ num (bitOf s) 6 (n - 1) → w ≡ wordUpTo (startBy x n) v → v ≤ n
+    → n ≤ v → w ≡ startsIn (bitOf s) n
 unfolding startsIn
 starts-done s n x v w is-x is-w l h =
     word-done (startBy x n) v n w is-w l h ∙ word-same (startBy x n) (startIn (bitOf s)) n (λ k low high. start-is s n x k is-x low high)
@@ -73,7 +75,8 @@ pub pad-within : (n u b : ℕ) → u ≡ bitCount n → b ≡ byteCount n → 8 
 pad-within n u b e d = omega (arith, pad-short n u b e d)
 
 -- they are the padding
-pub pad-is : (s : List ℕ) (n u b x p : ℕ) → u ≡ bitCount n → b ≡ byteCount n → x ≡ getD s (b - 1) 0 → p ≡ 2 ^ (8 * b - u) → x % p ≡ padIn (bitOf s) n
+pub pad-is : (s : List ℕ) (n u b x p : ℕ) → u ≡ bitCount n → b ≡ byteCount n → x ≡ getD s (b - 1) 0
+    → p ≡ 2 ^ (8 * b - u) → x % p ≡ padIn (bitOf s) n
 unfolding padIn
 pad-is s n u b x p e d is-x is-p =
     let l : 1 ≤ b = some-bytes n b d in

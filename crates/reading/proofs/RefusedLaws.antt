@@ -28,7 +28,8 @@ use Rattle.reading.specs.Refused.{NoneUpTo}
 pub place-after : (n m : ℕ) → 1 ≤ n → 5 + n + 2 * m ≡ entryPlace n (m + 1)
 place-after n m h = omega arith
 
-pub entries-are : (s : List ℕ) (n m count x : ℕ) → 1 ≤ n → x ≡ num (bitOf s) (5 + n + 2 * m) (2 * count) → x ≡ num (bitOf s) (entryPlace n (m + 1)) (2 * count)
+pub entries-are : (s : List ℕ) (n m count x : ℕ) → 1 ≤ n → x ≡ num (bitOf s) (5 + n + 2 * m) (2 * count)
+    → x ≡ num (bitOf s) (entryPlace n (m + 1)) (2 * count)
 entries-are s n m count x h is-x = is-x ∙ ap (λ (a : ℕ). num (bitOf s) a (2 * count)) (place-after n m h)
 
 -- ---- entries without both bits, by a word
@@ -69,7 +70,8 @@ module _ (s : List ℕ) (n m count x : ℕ) (is-x : x ≡ num (bitOf s) (entryPl
       ap (λ (y : ℕ). bit y (2 * k + (1 - d))) is-x ∙ ap (bit (num (bitOf s) (entryPlace n (m + 1)) (2 * count))) place
       ∙ num-bit (bitOf s) (bit-small s) (entryPlace n (m + 1)) (2 * count) (2 * t + d) (omega arith) ∙ ap (bitOf s) on
 
-  passed : (t : ℕ) → t < count → count ≤ 31 → bitAnd (bitAnd x (x / 2)) 0x5555555555555555 ≡ 0 → isRefused (bitOf s) n (m + t + 1) ≡ false
+  passed : (t : ℕ) → t < count → count ≤ 31 → bitAnd (bitAnd x (x / 2)) 0x5555555555555555 ≡ 0
+      → isRefused (bitOf s) n (m + t + 1) ≡ false
   unfolding isRefused numberedIn num
   passed t l few h =
       let k : ℕ = count - (t + 1) in
@@ -84,7 +86,8 @@ unfolding firstUpTo
 clear-starts f n = record { within = omega arith; none = refl }
 
 -- so many pairs more
-pub clear-more : (s : List ℕ) (n c m count x : ℕ) → c ≡ pairCount n → NoneUpTo (bitOf s) n m → count ≡ min (c - m) 31 → x ≡ num (bitOf s) (entryPlace n (m + 1)) (2 * count)
+pub clear-more : (s : List ℕ) (n c m count x : ℕ) → c ≡ pairCount n → NoneUpTo (bitOf s) n m → count ≡ min (c - m) 31
+    → x ≡ num (bitOf s) (entryPlace n (m + 1)) (2 * count)
     → bitAnd (bitAnd x (x / 2)) 0x5555555555555555 ≡ 0 → m < c → NoneUpTo (bitOf s) n (m + count)
 clear-more s n c m count x is-c before is-count is-x h l =
     record {
@@ -98,7 +101,8 @@ clear-more s n c m count x is-c before is-count is-x h l =
     }
 
 -- one pair more, or the first that is refused
-pub first-on : (s : List ℕ) (n c m x : ℕ) → c ≡ pairCount n → NoneUpTo (bitOf s) n m → x ≡ num (bitOf s) (entryPlace n (m + 1)) (2 * 1) → (x ≡ 3 → ⊥) → m < c → NoneUpTo (bitOf s) n (m + 1)
+pub first-on : (s : List ℕ) (n c m x : ℕ) → c ≡ pairCount n → NoneUpTo (bitOf s) n m
+    → x ≡ num (bitOf s) (entryPlace n (m + 1)) (2 * 1) → (x ≡ 3 → ⊥) → m < c → NoneUpTo (bitOf s) n (m + 1)
 unfolding isRefused numberedIn
 first-on s n c m x is-c before is-x d l =
     record {
@@ -106,10 +110,12 @@ first-on s n c m x is-c before is-x d l =
       none = rw (add-one m) (first-more (isRefused (bitOf s) n) m (before .none) (rw (add-one m) at (ne-eqb (num (bitOf s) (entryPlace n (m + 1)) 2) 3 (λ q. d (is-x ∙ q)))));
     }
 
-pub first-found : (s : List ℕ) (n c m x : ℕ) → c ≡ pairCount n → NoneUpTo (bitOf s) n m → x ≡ num (bitOf s) (entryPlace n (m + 1)) (2 * 1) → x ≡ 3 → m < c → m + 1 ≡ refusedIn (bitOf s) n
+pub first-found : (s : List ℕ) (n c m x : ℕ) → c ≡ pairCount n → NoneUpTo (bitOf s) n m
+    → x ≡ num (bitOf s) (entryPlace n (m + 1)) (2 * 1) → x ≡ 3 → m < c → m + 1 ≡ refusedIn (bitOf s) n
 unfolding refusedIn isRefused numberedIn
 first-found s n c m x is-c before is-x q l =
-    add-one m ∙ sym (first-stop (isRefused (bitOf s) n) (pairCount n) m (before .none) (rw (add-one m) at (eq-eqb (num (bitOf s) (entryPlace n (m + 1)) 2) 3 (sym is-x ∙ q))) (omega arith))
+    add-one m
+    ∙ sym (first-stop (isRefused (bitOf s) n) (pairCount n) m (before .none) (rw (add-one m) at (eq-eqb (num (bitOf s) (entryPlace n (m + 1)) 2) 3 (sym is-x ∙ q))) (omega arith))
 
 pub none-found : (f : ℕ → ℕ) (n c m : ℕ) → c ≡ pairCount n → NoneUpTo f n m → c ≤ m → 0 ≡ refusedIn f n
 unfolding refusedIn

@@ -15,7 +15,8 @@ unfolding listUpTo
 filled-starts f d = refl
 
 -- one byte more
-pub filled-turns : (f : ℕ → ℕ) (k v size n : ℕ) (out d : List ℕ) → out ≡ listUpTo f k ++ drop k d → v ≡ f (k + 1) → k < size → size ≡ n → n ≤ length d
+pub filled-turns : (f : ℕ → ℕ) (k v size n : ℕ) (out d : List ℕ) → out ≡ listUpTo f k ++ drop k d → v ≡ f (k + 1)
+    → k < size → size ≡ n → n ≤ length d
     → set out k v ≡ listUpTo f (k + 1) ++ drop (k + 1) d
 unfolding listUpTo
 filled-turns f k v size n out d is-out is-v l is-size room =

@@ -80,7 +80,8 @@ all-room g d room = omega (arith, bits-in-bytes (g .order), room)
 pub starts-small : (starts n v : ℕ) → v ≡ num (startAt starts) 2 (n - 1) → v < 2 ^ (n - 1)
 starts-small starts n v e = rw e (num-below (startAt starts) (λ k. omega arith) 2 (n - 1))
 
-pub start-fits : (starts a t n made b : ℕ) → made ≡ num (startAt starts) a t → b < 2 → t < n - 1 → n ≤ 32 → Fits w64 (2 * made + b)
+pub start-fits : (starts a t n made b : ℕ) → made ≡ num (startAt starts) a t → b < 2 → t < n - 1 → n ≤ 32
+    → Fits w64 (2 * made + b)
 start-fits starts a t n made b e s l h =
     record { fits = omega (arith, e, num-below (startAt starts) (λ k. omega arith) a t, pow-mono {i = t} {j = 32} (omega arith)) }
 
@@ -94,7 +95,8 @@ pub along-starts : (e u i : ℕ) → 0 ≡ along e u i 0
 unfolding along
 along-starts e u i = refl
 
-pub along-more : (e u i t made x : ℕ) → made ≡ along e u i t → x ≡ bit e (i + t + 1 - 1) + 2 * bit u (i + t + 1 - 1) → 4 * made + x ≡ along e u i (t + 1)
+pub along-more : (e u i t made x : ℕ) → made ≡ along e u i t → x ≡ bit e (i + t + 1 - 1) + 2 * bit u (i + t + 1 - 1)
+    → 4 * made + x ≡ along e u i (t + 1)
 unfolding along
 along-more e u i t made x is-made is-x =
     let k : i + t + 1 - 1 ≡ i + t = omega arith in
@@ -133,7 +135,8 @@ entry-is g i t li hi =
     ∙ ap (λ (a : ℕ). num (recordBit g) a 2) (cell-later (g .order) i t))
 
 -- and the entries of a row
-one-more : (f : ℕ → ℕ) (a e u i t : ℕ) → along e u i t ≡ num f a (2 * t) → bit e (i + t) + 2 * bit u (i + t) ≡ num f (a + 2 * t) 2 → along e u i (suc t) ≡ num f a (2 * suc t)
+one-more : (f : ℕ → ℕ) (a e u i t : ℕ) → along e u i t ≡ num f a (2 * t)
+    → bit e (i + t) + 2 * bit u (i + t) ≡ num f (a + 2 * t) 2 → along e u i (suc t) ≡ num f a (2 * suc t)
 unfolding along
 one-more f a e u i t before entry =
     let k : 2 * suc t ≡ 2 * t + 2 = omega arith in
@@ -156,13 +159,15 @@ module _ (g : Graph) (d o : List ℕ) (p : Pen) (i : ℕ) (h : Reached g d o p (
   pub row-room : 8 * p .stored + p .have + 2 * (g .order - i) ≤ 8 * length o
   row-room = omega (arith, within, h .at, h .long)
 
-  pub row-pushed : (o′ : List ℕ) (r : Pen) (v : ℕ) → g .order ≤ 32 → v ≡ along (getD (g .edges) (i - 1) 0) (getD (g .unknowns) (i - 1) 0) i (g .order - i)
+  pub row-pushed : (o′ : List ℕ) (r : Pen) (v : ℕ) → g .order ≤ 32
+      → v ≡ along (getD (g .edges) (i - 1) 0) (getD (g .unknowns) (i - 1) 0) i (g .order - i)
       → IsPushed o p v (2 * (g .order - i)) o′ r → Reached g d o′ r (cell (g .order) (i + 1) (i + 1 + 1))
   row-pushed o′ r v short is-v u =
       subst (Reached g d o′ r) (cell-next (g .order) i li hi)
       (pushes g d o o′ p r v (2 * (g .order - i)) (cell (g .order) i (i + 1)) h u (is-v ∙ along-held g i (g .order - i) li (omega arith)) (omega arith) within)
 
-pub rows-done : (g : Graph) (d o : List ℕ) (p : Pen) (i : ℕ) → Reached g d o p (cell (g .order) i (i + 1)) → 1 ≤ g .order → i ≤ g .order → g .order ≤ i → Reached g d o p (bitCount (g .order))
+pub rows-done : (g : Graph) (d o : List ℕ) (p : Pen) (i : ℕ) → Reached g d o p (cell (g .order) i (i + 1))
+    → 1 ≤ g .order → i ≤ g .order → g .order ≤ i → Reached g d o p (bitCount (g .order))
 rows-done g d o p i h l a b = subst (Reached g d o p) (cell-end (g .order) i l a b) h
 
 -- ---- the last bytes
@@ -189,7 +194,8 @@ module _ (g : Graph) (d o : List ℕ) (p : Pen) (low : 1 ≤ g .order) (h : Reac
   pub last-fits : Fits w64 (p .kept * 2 ^ (63 - p .have) % 2 ^ 64 * 2)
   last-fits = record { fits = rw last-word (num-below (recordBit g) (record-bit-small g) (8 * p .stored) 64) }
 
-pub last-room : (g : Graph) (d o : List ℕ) (p : Pen) → Reached g d o p (bitCount (g .order)) → p .stored + (p .have + 7) / 8 ≤ length o
+pub last-room : (g : Graph) (d o : List ℕ) (p : Pen) → Reached g d o p (bitCount (g .order))
+    → p .stored + (p .have + 7) / 8 ≤ length o
 unfolding byteCount
 last-room g d o p h = omega (arith, h .at, h .room, h .long)
 
@@ -206,7 +212,8 @@ module _ (g : Graph) (d : List ℕ) (low : 1 ≤ g .order) (high : g .order ≤ 
     ordered =
         record { at = refl; few = omega arith; bits = is-x ∙ sym (order-held g (lt-of-le-of-lt high (lit< tt))); bytes = filled-starts (recordByte g) d; long = refl; room = room }
 
-    started : (o : List ℕ) (r : Pen) (v : ℕ) → v ≡ num (startAt (g .starts)) 2 (g .order - 1) → IsPushed d (pen 0 6 x) v (g .order - 1) o r → Reached g d o r (cell (g .order) 1 2)
+    started : (o : List ℕ) (r : Pen) (v : ℕ) → v ≡ num (startAt (g .starts)) 2 (g .order - 1)
+        → IsPushed d (pen 0 6 x) v (g .order - 1) o r → Reached g d o r (cell (g .order) 1 2)
     unfolding bitCount cell
     started o r v is-v u =
         let e : 6 + (g .order - 1) ≡ entryPlace (g .order) (number (g .order) 1 2) = omega (arith, number-first (g .order)) in
@@ -216,16 +223,20 @@ module _ (g : Graph) (d : List ℕ) (low : 1 ≤ g .order) (high : g .order ≤ 
         (λ t l. let k : 6 + (2 + t - 2) ≡ 6 + t = omega arith in sym (start-held g (2 + t) (omega arith) (omega arith)) ∙ ap (recordBit g) k))
         (omega arith) (omega (arith, all-room g d room)))
 
-    pub rows-begin : (o : List ℕ) (r : Pen) (v : ℕ) → v ≡ num (startAt (g .starts)) 2 (g .order - 1) → IsPushed d (pen 0 6 x) v (g .order - 1) o r → Reached g o o r (cell (g .order) 1 2)
+    pub rows-begin : (o : List ℕ) (r : Pen) (v : ℕ) → v ≡ num (startAt (g .starts)) 2 (g .order - 1)
+        → IsPushed d (pen 0 6 x) v (g .order - 1) o r → Reached g o o r (cell (g .order) 1 2)
     rows-begin o r v is-v u = from-here g d o r (cell (g .order) 1 2) (started o r v is-v u)
 
-    pub all-stored : (o₁ o₂ o₃ : List ℕ) (p₁ p₂ : Pen) (v : ℕ) → v ≡ num (startAt (g .starts)) 2 (g .order - 1) → IsPushed d (pen 0 6 x) v (g .order - 1) o₁ p₁
-        → Reached g o₁ o₂ p₂ (bitCount (g .order)) → p₁ .stored ≤ p₂ .stored → o₃ ≡ stored o₂ (p₂ .stored) (p₂ .kept * 2 ^ (63 - p₂ .have) % 2 ^ 64 * 2) ((p₂ .have + 7) / 8)
+    pub all-stored : (o₁ o₂ o₃ : List ℕ) (p₁ p₂ : Pen) (v : ℕ) → v ≡ num (startAt (g .starts)) 2 (g .order - 1)
+        → IsPushed d (pen 0 6 x) v (g .order - 1) o₁ p₁
+        → Reached g o₁ o₂ p₂ (bitCount (g .order)) → p₁ .stored ≤ p₂ .stored
+        → o₃ ≡ stored o₂ (p₂ .stored) (p₂ .kept * 2 ^ (63 - p₂ .have) % 2 ^ 64 * 2) ((p₂ .have + 7) / 8)
         → o₃ ≡ recordOf g ++ drop (byteCount (g .order)) d
     unfolding recordOf byteCount
     all-stored o₁ o₂ o₃ p₁ p₂ v is-v u b later is-o =
         let h = joined g d o₁ o₂ p₁ p₂ (cell (g .order) 1 2) (bitCount (g .order)) (started o₁ p₁ v is-v u) b later in
         let k : p₂ .stored + (p₂ .have + 7) / 8 ≡ byteCount (g .order) = omega (arith, h .at) in
-        is-o ∙ stored-filled g d o₂ (p₂ .stored) (p₂ .kept * 2 ^ (63 - p₂ .have) % 2 ^ 64 * 2) ((p₂ .have + 7) / 8) (h .bytes) (last-word g d o₂ p₂ low h)
+        is-o
+        ∙ stored-filled g d o₂ (p₂ .stored) (p₂ .kept * 2 ^ (63 - p₂ .have) % 2 ^ 64 * 2) ((p₂ .have + 7) / 8) (h .bytes) (last-word g d o₂ p₂ low h)
         (omega (arith, h .few)) (omega (arith, k, room))
         ∙ ap (λ (y : ℕ). listUpTo (recordByte g) y ++ drop y d) k

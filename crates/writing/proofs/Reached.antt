@@ -30,7 +30,8 @@ kept-small g d o p place h = rw (h .bits) (num-below (recordBit g) (record-bit-s
 -- ---- bytes of a word
 
 -- byte t of the 64 bits from byte s on
-byte-of : (g : Graph) (s t word : ℕ) → word ≡ num (recordBit g) (8 * s) 64 → t < 8 → word / 2 ^ (56 - 8 * t) % 256 ≡ recordByte g (s + t + 1)
+byte-of : (g : Graph) (s t word : ℕ) → word ≡ num (recordBit g) (8 * s) 64 → t < 8
+    → word / 2 ^ (56 - 8 * t) % 256 ≡ recordByte g (s + t + 1)
 unfolding recordByte
 byte-of g s t word is-word l =
     let e : 64 ≡ 8 * t + 8 + (56 - 8 * t) = omega arith in
@@ -41,7 +42,8 @@ byte-of g s t word is-word l =
     ∙ ap (λ (a : ℕ). num (recordBit g) a 8) k
 
 -- t of them stored
-pub stored-filled : (g : Graph) (d o : List ℕ) (s word t : ℕ) → o ≡ listUpTo (recordByte g) s ++ drop s d → word ≡ num (recordBit g) (8 * s) 64 → t ≤ 8 → s + t ≤ length d
+pub stored-filled : (g : Graph) (d o : List ℕ) (s word t : ℕ) → o ≡ listUpTo (recordByte g) s ++ drop s d
+    → word ≡ num (recordBit g) (8 * s) 64 → t ≤ 8 → s + t ≤ length d
     → stored o s word t ≡ listUpTo (recordByte g) (s + t) ++ drop (s + t) d
 unfolding stored
 stored-filled g d o s word zero is-o is-word l room = let e : s + 0 ≡ s = omega arith in rw e is-o
@@ -148,7 +150,8 @@ from-here g d o p place h =
     }
 
 -- and what it reaches is reached from the first
-pub joined : (g : Graph) (d o o′ : List ℕ) (p p′ : Pen) (a b : ℕ) → Reached g d o p a → Reached g o o′ p′ b → p .stored ≤ p′ .stored → Reached g d o′ p′ b
+pub joined : (g : Graph) (d o o′ : List ℕ) (p p′ : Pen) (a b : ℕ) → Reached g d o p a → Reached g o o′ p′ b
+    → p .stored ≤ p′ .stored → Reached g d o′ p′ b
 joined g d o o′ p p′ a b h k l =
     record {
       at = k .at;

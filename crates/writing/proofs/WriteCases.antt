@@ -37,7 +37,8 @@ module _ (g : Graph) (b : Bool) (is-b : b ≡ wellFormed g) where
       unfolding writeAnswer unless
       write-done h = rw (well, ← is-size, le-leb size (length out) h)
 
-      pub buffer-done : (after : List ℕ) → size ≤ length out → after ≡ recordOf g ++ drop (byteCount (g .order)) out → after ≡ bufferAfter g out
+      pub buffer-done : (after : List ℕ) → size ≤ length out → after ≡ recordOf g ++ drop (byteCount (g .order)) out
+          → after ≡ bufferAfter g out
       unfolding bufferAfter unless
       buffer-done after h is-after = rw (well, le-leb (byteCount (g .order)) (length out) (rw is-size at h)) is-after
 
