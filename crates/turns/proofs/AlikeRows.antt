@@ -5,7 +5,7 @@ use native.Mathlib.Omega.{arith}
 use mathlib.Core.Path.{_≡_, refl, sym, ap, _∙_}
 use mathlib.Core.Bool.{Bool, true, false, false≢true}
 use mathlib.Core.List.{List}
-use lib.Bits.{bitAnd}
+use lib.Bits.{bitAnd, bitOr}
 use lib.Dec.{eqb}
 use lib.Pow.{pow-pos, shr-shr}
 use borrow.Author.Tests.{eqb-true}
@@ -15,9 +15,10 @@ use Rattle.laws.specs.Masks.{bit-of-without}
 use Rattle.laws.specs.UpTo.{wordUpTo}
 use Rattle.laws.specs.UpToLaws.{word-bit}
 use Rattle.words.specs.Placed.{row}
+use Rattle.rows.proofs.Standing.{or-none}
 use Rattle.arrangements.specs.Arrangement.{at}
 use Rattle.pairs.specs.Pairs.{Pair, pair, alongRow}
-use Rattle.turns.specs.Turns.{allMarks, marksOf, turnAt, walkCode, Arranged, Later, Alike}
+use Rattle.turns.specs.Turns.{allMarks, marksOf, turnAt, walkCode, Within, Arranged, Later, Alike}
 use Rattle.turns.proofs.CodeTurns.{turn-same, turn-is, code-rest}
 
 -- ---- words of ones
@@ -131,3 +132,12 @@ alike-goes-on e w p n i u ones marks mask b pu po pm s f q =
     (row-open (turnAt e w p) i (i + 1) (n + 1 - (i + 1))
     (λ k l h.
     sym (turn-is e w p i k u (at p k) ones marks 0 pu refl po pm (turn-same ones marks i k u (at p k) (f q .same k (at p k - 1) (omega arith) (omega arith) (s .has k (omega arith) (omega arith)))))))
+
+-- so does a row with no edge after its place and no mark, wherever its later vertices are
+pub bare-goes-on : (e w p : List ℕ) (n i u ones marks : ℕ) → u ≡ at p i → ones ≡ row e i → marks ≡ marksOf e w u → Within n p → bitOr (ones / 2 ^ i) marks ≡ 0
+    → 0 ≡ walkCode (turnAt e w p) (alongRow i (i + 1) (n + 1 - (i + 1)))
+bare-goes-on e w p n i u ones marks pu po pm s h =
+    let none = or-none (ones / 2 ^ i) marks h in
+    let all : Later n i p allMarks = record { has = λ j l k. let low = s .low j (omega arith) k in let high = s .high j (omega arith) k in all-bits (at p j - 1) (omega arith) } in
+    let alike : Alike n i ones marks allMarks = record { same = λ j k l m q. after-place ones i j l ∙ rw (none .0, none .1) (bit-of-zero (j - 1 - i) ∙ sym (bit-of-zero k)) } in
+    alike-goes-on e w p n i u ones marks allMarks true pu po pm all (λ _. alike) refl

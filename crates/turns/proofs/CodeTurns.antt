@@ -1,9 +1,10 @@
 -- What the code's steps come to, one law for each answer and each turn of a loop.
-use Prim.Native.Nat.{ℕ, zero, suc, _+_, _-_, _≤_, _<_}
+use Prim.Native.Nat.{ℕ, zero, suc, _+_, _-_, _/_, _%_, _^_, _≤_, _<_}
 use native.Mathlib.Omega.{arith}
 use mathlib.Core.Path.{_≡_, refl, sym, ap, _∙_}
 use mathlib.Core.Bool.{Bool, true, false}
 use mathlib.Core.List.{List, [], _∷_, _++_}
+use lib.Bits.{bitXor, xor-add-and}
 use lib.Dec.{eqb}
 use borrow.Author.Tests.{eq-eqb, ne-eqb, lt-ltb, le-ltb}
 use Rattle.laws.specs.Test.{both, pick}
@@ -38,24 +39,37 @@ module _ (i j u v : ℕ) where
 
 -- ---- one pair
 
+-- two numbers whose lowest bits are the same
+low-same : (a b : ℕ) → bitXor a b % 2 ≡ 0 → a % 2 ≡ b % 2
+low-same a b h = omega (arith, xor-add-and a b)
+
+same-low : (a b : ℕ) → a % 2 ≡ b % 2 → bitXor a b % 2 ≡ 0
+same-low a b h = omega (arith, xor-add-and a b)
+
 module _ (ones marks i j u v : ℕ) where
   pub turn-same : bit ones (j - 1) ≡ bit marks (v - 1) → 0 ≡ turnBy ones marks i j u v
   unfolding turnBy pick
   turn-same e = rw (eq-eqb (bit ones (j - 1)) (bit marks (v - 1)) e)
 
-  module _ (d : bit ones (j - 1) ≡ bit marks (v - 1) → ⊥) where
+  pub turn-even : bitXor (ones / 2 ^ (j - 1)) (marks / 2 ^ (v - 1)) % 2 ≡ 0 → 0 ≡ turnBy ones marks i j u v
+  turn-even h = turn-same (low-same (ones / 2 ^ (j - 1)) (marks / 2 ^ (v - 1)) h)
+
+  module _ (odd : bitXor (ones / 2 ^ (j - 1)) (marks / 2 ^ (v - 1)) % 2 ≡ 0 → ⊥) where
+    apart : bit ones (j - 1) ≡ bit marks (v - 1) → ⊥
+    apart e = odd (same-low (ones / 2 ^ (j - 1)) (marks / 2 ^ (v - 1)) e)
+
     pub turn-wins : bit ones (j - 1) ≡ 1 → 2 ≡ turnBy ones marks i j u v
     unfolding turnBy pick
-    turn-wins e = rw (ne-eqb (bit ones (j - 1)) (bit marks (v - 1)) d, eq-eqb (bit ones (j - 1)) 1 e)
+    turn-wins e = rw (ne-eqb (bit ones (j - 1)) (bit marks (v - 1)) apart, eq-eqb (bit ones (j - 1)) 1 e)
 
     module _ (z : bit ones (j - 1) ≡ 1 → ⊥) (own : Bool) (s : own ≡ samePair (pairOfTwo u v) (pair i j)) where
       pub turn-own : own ≡ true → 0 ≡ turnBy ones marks i j u v
       unfolding turnBy pick
-      turn-own e = rw (ne-eqb (bit ones (j - 1)) (bit marks (v - 1)) d, ne-eqb (bit ones (j - 1)) 1 z, sym s ∙ e)
+      turn-own e = rw (ne-eqb (bit ones (j - 1)) (bit marks (v - 1)) apart, ne-eqb (bit ones (j - 1)) 1 z, sym s ∙ e)
 
       pub turn-loses : own ≡ false → 1 ≡ turnBy ones marks i j u v
       unfolding turnBy pick
-      turn-loses e = rw (ne-eqb (bit ones (j - 1)) (bit marks (v - 1)) d, ne-eqb (bit ones (j - 1)) 1 z, sym s ∙ e)
+      turn-loses e = rw (ne-eqb (bit ones (j - 1)) (bit marks (v - 1)) apart, ne-eqb (bit ones (j - 1)) 1 z, sym s ∙ e)
 
 pub turn-is : (e w p : List ℕ) (i j u v ones marks r : ℕ) → u ≡ at p i → v ≡ at p j → ones ≡ row e i → marks ≡ marksOf e w u
     → r ≡ turnBy ones marks i j u v → r ≡ turnAt e w p (pair i j)

@@ -51,11 +51,11 @@ fn turn_by(ones: u32, marks: u32, i: u32, j: u32, u: u32, v: u32) -> u32
     requires { ⌜ (1 ≤ j) × (j ≤ 32) × (1 ≤ v) × (v ≤ 32) ⌝ }
     ensures { λ r. ⌜ r ≡ turnBy ones marks i j u v ⌝ }
 {
-    let a = (ones >> (j - 1)) % 2;
-    if a == (marks >> (v - 1)) % 2 {
+    let a = ones >> (j - 1);
+    if (a ^ (marks >> (v - 1))) % 2 == 0 {
         return 0;
     }
-    if a == 1 {
+    if a % 2 == 1 {
         return 2;
     }
     if is_own(i, j, u, v) {
@@ -174,6 +174,20 @@ fn later_rows<'a>(edges: &'a [u32; 32], unknowns: &'a [u32; 32], path: &'a [u8; 
     0
 }
 
+// The walk along row 2. It goes on where it has no edge after its place and the vertex there no mark.
+fn second_walk<'a>(edges: &'a [u32; 32], unknowns: &'a [u32; 32], path: &'a [u8; 32], n: u32) -> u32
+    requires { ⌜ (3 ≤ n) × (n ≤ 32) × Within n (now path) ⌝ }
+    ensures { λ r. ⌜ r ≡ walkCode (turnAt (now (edges .entry)) (now (unknowns .entry)) (now (path .entry))) (alongRow 2 (2 + 1) (n + 1 - (2 + 1))) ⌝ }
+{
+    let u = vertex_at(path, 2);
+    let ones = edges_of(edges, 2);
+    let marks = marks_of(edges, unknowns, u);
+    if ((ones >> 2) | marks) == 0 {
+        return 0;
+    }
+    pairs_walk(edges, unknowns, path, n, 2)
+}
+
 // The walk along the rows after the first. Most walks end in the second, which is walked pair by pair.
 pub fn rows_walk<'a>(
     edges: &'a [u32; 32],
@@ -187,7 +201,7 @@ pub fn rows_walk<'a>(
     if n < 3 {
         return 0;
     }
-    let code = pairs_walk(edges, unknowns, path, n, 2);
+    let code = second_walk(edges, unknowns, path, n);
     if code == 0 {
         return later_rows(edges, unknowns, path, n);
     }

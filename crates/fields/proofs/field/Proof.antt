@@ -9,18 +9,6 @@ returns c = search (field-narrow, needs)
 returns-2 : tie.Need-returns-2
 returns-2 c = search (field-wide, needs)
 
-sub-last : tie.Need-sub-last
-sub-last c = search needs
-
-add-last : tie.Need-add-last
-add-last c = search needs
-
-add-last-2 : tie.Need-add-last-2
-add-last-2 c = search needs
-
-number-at-requires : tie.Need-number-at-requires
-number-at-requires c κs = search needs
-
 returns-3 : tie.Need-returns-3
 returns-3 c = search (field-read, needs)
 
@@ -29,13 +17,5 @@ returns-4 c = search (field-past, needs)
 
 pub field-spec : {M : Type 1} → statement M
 field-spec =
-    tie.close
-    (tie.spec
-    returns
-    returns-2
-    sub-last
-    add-last
-    add-last-2
-    number-at-requires
-    returns-3
-    returns-4)
+    tie.close (tie.spec returns returns-2 (λ c. search needs) (λ c. search needs) (λ c. search needs)
+    (λ c κs. search needs) returns-3 returns-4)

@@ -20,20 +20,8 @@ loop-holds c = search (bytes-start, needs)
 mul-made : tie.Need-mul-made Inv-loop μ-loop
 mul-made c = search (times-fit, needs)
 
-add-byte-at : tie.Need-add-byte-at Inv-loop μ-loop
-add-byte-at c = search needs
-
-byte-at-requires : tie.Need-byte-at-requires Inv-loop μ-loop
-byte-at-requires c κs = search needs
-
 add-made : tie.Need-add-made Inv-loop μ-loop
 add-made c = search (bytes-fit, needs)
-
-add-t : tie.Need-add-t Inv-loop μ-loop
-add-t c = search needs
-
-loop-less : tie.Need-loop-less Inv-loop μ-loop
-loop-less c = search needs
 
 loop-again : tie.Need-loop-again Inv-loop μ-loop
 loop-again c = search (bytes-more, needs)
@@ -43,16 +31,5 @@ returns c = search (bytes-done, needs)
 
 pub few-at-spec : {M : Type 1} → statement M
 few-at-spec =
-    tie.close
-    (tie.spec
-    Inv-loop
-    μ-loop
-    loop-holds
-    mul-made
-    add-byte-at
-    byte-at-requires
-    add-made
-    add-t
-    loop-less
-    loop-again
-    returns)
+    tie.close (tie.spec Inv-loop μ-loop loop-holds mul-made (λ c. search needs) (λ c κs. search needs) add-made
+    (λ c. search needs) (λ c. search needs) loop-again returns)

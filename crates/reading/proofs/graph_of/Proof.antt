@@ -3,18 +3,6 @@ use borrow.Author.Needs.{needs}
 use Rattle.reading.proofs.graph_of.Statement.{statement}
 use Rattle.reading.proofs.graph_of.Tie as tie
 
-order-of-requires : tie.Need-order-of-requires
-order-of-requires c κs = search needs
-
-fill-lines-requires : tie.Need-fill-lines-requires
-fill-lines-requires c κs = search needs
-
-mirror-requires : tie.Need-mirror-requires
-mirror-requires c κs = search needs
-
-starts-of-requires : tie.Need-starts-of-requires
-starts-of-requires c κs = search needs
-
 returns : tie.Need-returns
 returns c =
     let filled = c .before .before .before .before in
@@ -23,5 +11,5 @@ returns c =
 
 pub graph-of-spec : {M : Type 1} → statement M
 graph-of-spec =
-    tie.close
-    (tie.spec order-of-requires fill-lines-requires mirror-requires starts-of-requires returns)
+    tie.close (tie.spec (λ c κs. search needs) (λ c κs. search needs) (λ c κs. search needs) (λ c κs. search needs)
+    returns)

@@ -6,12 +6,6 @@ use Rattle.reading.proofs.record_at.Tie as tie
 returns : tie.Need-returns
 returns c = search (none-given, needs)
 
-order-of-requires : tie.Need-order-of-requires
-order-of-requires c κs = search needs
-
-size-requires : tie.Need-size-requires
-size-requires c κs = search needs
-
 returns-2 : tie.Need-returns-2
 returns-2 c = search (order-refused, none-taken, needs)
 
@@ -20,9 +14,6 @@ returns-3 c = search (runs-past, needs)
 
 first-refused-requires : tie.Need-first-refused-requires
 first-refused-requires c κs = search (order-low, order-high, needs)
-
-cast-t7 : tie.Need-cast-t7
-cast-t7 c = search needs
 
 returns-4 : tie.Need-returns-4
 returns-4 c = search (entry-refused, needs)
@@ -38,16 +29,5 @@ returns-6 c = search (pad-passes, needs)
 
 pub record-at-spec : {M : Type 1} → statement M
 record-at-spec =
-    tie.close
-    (tie.spec
-    returns
-    order-of-requires
-    size-requires
-    returns-2
-    returns-3
-    first-refused-requires
-    cast-t7
-    returns-4
-    pad-of-requires
-    returns-5
-    returns-6)
+    tie.close (tie.spec returns (λ c κs. search needs) (λ c κs. search needs) returns-2 returns-3
+    first-refused-requires (λ c. search needs) returns-4 pad-of-requires returns-5 returns-6)

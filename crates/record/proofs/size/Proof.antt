@@ -9,11 +9,9 @@ returns c = search (size-zero, needs)
 returns-2 : tie.Need-returns-2
 returns-2 c = search (size-above, needs)
 
-byte-count-requires : tie.Need-byte-count-requires
-byte-count-requires c κs = search needs
-
 returns-3 : tie.Need-returns-3
 returns-3 c = search (size-given, needs)
 
 pub size-spec : {M : Type 1} → statement M
-size-spec = tie.close (tie.spec returns returns-2 byte-count-requires returns-3)
+size-spec =
+    tie.close (tie.spec returns returns-2 (λ c κs. search needs) returns-3)

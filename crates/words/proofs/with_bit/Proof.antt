@@ -3,17 +3,8 @@ use Rattle.words.proofs.CodeWords.{bit-out, with-bit-fits, with-bit-is}
 use Rattle.words.proofs.with_bit.Statement.{statement}
 use Rattle.words.proofs.with_bit.Tie as tie
 
-shr-weight : tie.Need-shr-weight
-shr-weight c = search needs
-
-weight-requires : tie.Need-weight-requires
-weight-requires c κs = search needs
-
 sub-result : tie.Need-sub-result
 sub-result c = search (bit-out, needs)
-
-weight-requires-2 : tie.Need-weight-requires-2
-weight-requires-2 c κs = search needs
 
 add-result : tie.Need-add-result
 add-result c = search (with-bit-fits, needs)
@@ -23,4 +14,5 @@ returns c = search (with-bit-is, needs)
 
 pub with-bit-spec : {M : Type 1} → statement M
 with-bit-spec =
-    tie.close (tie.spec shr-weight weight-requires sub-result weight-requires-2 add-result returns)
+    tie.close (tie.spec (λ c. search needs) (λ c κs. search needs) sub-result (λ c κs. search needs) add-result
+    returns)

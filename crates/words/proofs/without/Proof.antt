@@ -6,8 +6,6 @@ use Rattle.words.proofs.without.Tie as tie
 sub-result : tie.Need-sub-result
 sub-result c = search (part-within, needs)
 
-returns : tie.Need-returns
-returns c = search needs
-
 pub without-spec : {M : Type 1} → statement M
-without-spec = tie.close (tie.spec sub-result returns)
+without-spec =
+    tie.close (tie.spec sub-result (λ c. search needs))

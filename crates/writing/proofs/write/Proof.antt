@@ -3,9 +3,6 @@ use Rattle.writing.proofs.WriteCases.{order-low, order-high, write-shor
 use Rattle.writing.proofs.write.Statement.{statement}
 use Rattle.writing.proofs.write.Tie as tie
 
-is-well-formed-requires : tie.Need-is-well-formed-requires
-is-well-formed-requires c κs = search needs
-
 byte-count-requires : tie.Need-byte-count-requires
 byte-count-requires c κs = search (order-low, order-high, needs)
 
@@ -15,9 +12,6 @@ returns c = search (write-short, buffer-short, needs)
 put-requires : tie.Need-put-requires
 put-requires c κs = search (order-low, order-high, needs)
 
-same-length : tie.Need-same-length
-same-length c = search needs
-
 returns-2 : tie.Need-returns-2
 returns-2 c = search (write-done, buffer-done, needs)
 
@@ -26,12 +20,5 @@ returns-3 c = search (write-formless, buffer-formless, needs)
 
 pub write-spec : {M : Type 1} → statement M
 write-spec =
-    tie.close
-    (tie.spec
-    is-well-formed-requires
-    byte-count-requires
-    returns
-    put-requires
-    same-length
-    returns-2
+    tie.close (tie.spec (λ c κs. search needs) byte-count-requires returns put-requires (λ c. search needs) returns-2
     returns-3)

@@ -18,38 +18,11 @@ abbrev μ-loop : tie.MeasureT-loop
 loop-holds : tie.Need-loop-holds Inv-loop μ-loop
 loop-holds c = search (lines-start, needs)
 
-add-entries-of : tie.Need-add-entries-of Inv-loop μ-loop
-add-entries-of c = search needs
-
-entries-of-requires : tie.Need-entries-of-requires Inv-loop μ-loop
-entries-of-requires c κs = search needs
-
-add-line-from : tie.Need-add-line-from Inv-loop μ-loop
-add-line-from c = search needs
-
-line-from-requires : tie.Need-line-from-requires Inv-loop μ-loop
-line-from-requires c κs = search needs
-
-cast-k : tie.Need-cast-k Inv-loop μ-loop
-cast-k c = search needs
-
-mul-unknowns : tie.Need-mul-unknowns Inv-loop μ-loop
-mul-unknowns c = search needs
-
 element-write-unknowns : tie.Need-element-write-unknowns Inv-loop μ-loop
 element-write-unknowns c = search (lines-room, needs)
 
-mul-edges : tie.Need-mul-edges Inv-loop μ-loop
-mul-edges c = search needs
-
 element-write-edges : tie.Need-element-write-edges Inv-loop μ-loop
 element-write-edges c = search (lines-room, needs)
-
-add-i : tie.Need-add-i Inv-loop μ-loop
-add-i c = search needs
-
-loop-less : tie.Need-loop-less Inv-loop μ-loop
-loop-less c = search needs
 
 loop-again : tie.Need-loop-again Inv-loop μ-loop
 loop-again c = search (unknowns-turn, edges-turn, needs)
@@ -59,21 +32,6 @@ returns c = search (lines-done, needs)
 
 pub fill-lines-spec : {M : Type 1} → statement M
 fill-lines-spec =
-    tie.close
-    (tie.spec
-    Inv-loop
-    μ-loop
-    loop-holds
-    add-entries-of
-    entries-of-requires
-    add-line-from
-    line-from-requires
-    cast-k
-    mul-unknowns
-    element-write-unknowns
-    mul-edges
-    element-write-edges
-    add-i
-    loop-less
-    loop-again
-    returns)
+    tie.close (tie.spec Inv-loop μ-loop loop-holds (λ c. search needs) (λ c κs. search needs) (λ c. search needs)
+    (λ c κs. search needs) (λ c. search needs) (λ c. search needs) element-write-unknowns (λ c. search needs)
+    element-write-edges (λ c. search needs) (λ c. search needs) loop-again returns)

@@ -3,11 +3,9 @@ use borrow.Author.Needs.{needs}
 use Rattle.rows.proofs.fits.fault_of.Statement.{statement}
 use Rattle.rows.proofs.fits.fault_of.Tie as tie
 
-without-requires : tie.Need-without-requires
-without-requires c κs = search needs
-
 returns : tie.Need-returns
 returns c = search (fault-is, needs)
 
 pub fault-of-spec : {M : Type 1} → statement M
-fault-of-spec = tie.close (tie.spec without-requires returns)
+fault-of-spec =
+    tie.close (tie.spec (λ c κs. search needs) returns)

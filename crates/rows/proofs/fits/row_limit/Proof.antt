@@ -3,12 +3,6 @@ use borrow.Author.Needs.{needs}
 use Rattle.rows.proofs.fits.row_limit.Statement.{statement}
 use Rattle.rows.proofs.fits.row_limit.Tie as tie
 
-limit-of-requires : tie.Need-limit-of-requires
-limit-of-requires c κs = search needs
-
-sub-result : tie.Need-sub-result
-sub-result c = search needs
-
 cast-result : tie.Need-cast-result
 cast-result c = search (limit-fits, needs)
 
@@ -19,4 +13,5 @@ returns-2 : tie.Need-returns-2
 returns-2 c = search (limit-past, needs)
 
 pub row-limit-spec : {M : Type 1} → statement M
-row-limit-spec = tie.close (tie.spec limit-of-requires sub-result cast-result returns returns-2)
+row-limit-spec =
+    tie.close (tie.spec (λ c κs. search needs) (λ c. search needs) cast-result returns returns-2)

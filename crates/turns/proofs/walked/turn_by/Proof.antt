@@ -1,10 +1,10 @@
 use borrow.Author.Needs.{needs}
-use Rattle.turns.proofs.CodeTurns.{turn-same, turn-wins, turn-own, turn-loses}
+use Rattle.turns.proofs.CodeTurns.{turn-even, turn-wins, turn-own, turn-loses}
 use Rattle.turns.proofs.walked.turn_by.Statement.{statement}
 use Rattle.turns.proofs.walked.turn_by.Tie as tie
 
 returns : tie.Need-returns
-returns c = search (turn-same, needs)
+returns c = search (turn-even, needs)
 
 returns-2 : tie.Need-returns-2
 returns-2 c = search (turn-wins, needs)

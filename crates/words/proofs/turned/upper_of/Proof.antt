@@ -3,11 +3,9 @@ use Rattle.words.proofs.CodeStages.{upper-is}
 use Rattle.words.proofs.turned.upper_of.Statement.{statement}
 use Rattle.words.proofs.turned.upper_of.Tie as tie
 
-shr-result : tie.Need-shr-result
-shr-result c = search needs
-
 returns : tie.Need-returns
 returns c = search (upper-is, needs)
 
 pub upper-of-spec : {M : Type 1} → statement M
-upper-of-spec = tie.close (tie.spec shr-result returns)
+upper-of-spec =
+    tie.close (tie.spec (λ c. search needs) returns)

@@ -19,23 +19,8 @@ loop-holds c = search (along-starts, needs)
 mul-made : tie.Need-mul-made Inv-loop μ-loop
 mul-made c = search (fourfold-fits, needs)
 
-add-entry-of : tie.Need-add-entry-of Inv-loop μ-loop
-add-entry-of c = search needs
-
-add-entry-of-2 : tie.Need-add-entry-of-2 Inv-loop μ-loop
-add-entry-of-2 c = search needs
-
-entry-of-requires : tie.Need-entry-of-requires Inv-loop μ-loop
-entry-of-requires c κs = search needs
-
 add-made : tie.Need-add-made Inv-loop μ-loop
 add-made c = search (entry-fits, needs)
-
-add-t : tie.Need-add-t Inv-loop μ-loop
-add-t c = search needs
-
-loop-less : tie.Need-loop-less Inv-loop μ-loop
-loop-less c = search needs
 
 loop-again : tie.Need-loop-again Inv-loop μ-loop
 loop-again c = search (along-more, needs)
@@ -45,17 +30,5 @@ returns c = search (along-done, needs)
 
 pub entries-of-spec : {M : Type 1} → statement M
 entries-of-spec =
-    tie.close
-    (tie.spec
-    Inv-loop
-    μ-loop
-    loop-holds
-    mul-made
-    add-entry-of
-    add-entry-of-2
-    entry-of-requires
-    add-made
-    add-t
-    loop-less
-    loop-again
-    returns)
+    tie.close (tie.spec Inv-loop μ-loop loop-holds mul-made (λ c. search needs) (λ c. search needs)
+    (λ c κs. search needs) add-made (λ c. search needs) (λ c. search needs) loop-again returns)

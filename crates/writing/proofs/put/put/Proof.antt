@@ -3,15 +3,6 @@ use borrow.Author.Needs.{needs}
 use Rattle.writing.proofs.put.put.Statement.{statement}
 use Rattle.writing.proofs.put.put.Tie as tie
 
-wide-requires : tie.Need-wide-requires
-wide-requires c κs = search needs
-
-starts-of-requires : tie.Need-starts-of-requires
-starts-of-requires c κs = search needs
-
-sub-push : tie.Need-sub-push
-sub-push c = search needs
-
 push-requires : tie.Need-push-requires
 push-requires c κs = (search needs, search needs, search needs, starts-small _ _ _ (c .before .starts-of .ensures), search (starts-room, needs))
 
@@ -24,33 +15,15 @@ put-rows-requires c κs =
       rows-begin _ _ (given .0) (given .1) (given .2) _ (pushed .before .before .before .wide .ensures) _ _ _ (pushed .before .before .starts-of .ensures) (pushed .push .ensures),
     )
 
-sub-word : tie.Need-sub-word
-sub-word c = search needs
-
-cast-word : tie.Need-cast-word
-cast-word c = search needs
-
-shl-word : tie.Need-shl-word
-shl-word c = search needs
-
 mul-word : tie.Need-mul-word
 mul-word c =
     let rows = c .before .before .before .before in
     last-fits _ _ _ _ (rows .before .before .before .before .before .before .before .before .before .before .before .before .pre .0) (rows .put-rows .ensures .0)
 
-add-store : tie.Need-add-store
-add-store c = search needs
-
-cast-store : tie.Need-cast-store
-cast-store c = search needs
-
 store-requires : tie.Need-store-requires
 store-requires c κs =
     let rows = c .before .before .before .before .before .before in
     (search needs, last-room _ _ _ _ (rows .put-rows .ensures .0))
-
-same-length : tie.Need-same-length
-same-length c = search needs
 
 returns : tie.Need-returns
 returns c =
@@ -62,19 +35,6 @@ returns c =
 
 pub put-spec : {M : Type 1} → statement M
 put-spec =
-    tie.close
-    (tie.spec
-    wide-requires
-    starts-of-requires
-    sub-push
-    push-requires
-    put-rows-requires
-    sub-word
-    cast-word
-    shl-word
-    mul-word
-    add-store
-    cast-store
-    store-requires
-    same-length
-    returns)
+    tie.close (tie.spec (λ c κs. search needs) (λ c κs. search needs) (λ c. search needs) push-requires
+    put-rows-requires (λ c. search needs) (λ c. search needs) (λ c. search needs) mul-word (λ c. search needs)
+    (λ c. search needs) store-requires (λ c. search needs) returns)

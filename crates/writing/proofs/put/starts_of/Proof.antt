@@ -18,26 +18,11 @@ abbrev μ-loop : tie.MeasureT-loop
 loop-holds : tie.Need-loop-holds Inv-loop μ-loop
 loop-holds c = search (number-none, needs)
 
-sub-loop : tie.Need-sub-loop Inv-loop μ-loop
-sub-loop c = search needs
-
 mul-made : tie.Need-mul-made Inv-loop μ-loop
 mul-made c = search (twice-fits, needs)
 
-add-start-of : tie.Need-add-start-of Inv-loop μ-loop
-add-start-of c = search needs
-
-start-of-requires : tie.Need-start-of-requires Inv-loop μ-loop
-start-of-requires c κs = search needs
-
 add-made : tie.Need-add-made Inv-loop μ-loop
 add-made c = search (start-fits, needs)
-
-add-t : tie.Need-add-t Inv-loop μ-loop
-add-t c = search needs
-
-loop-less : tie.Need-loop-less Inv-loop μ-loop
-loop-less c = search needs
 
 loop-again : tie.Need-loop-again Inv-loop μ-loop
 loop-again c = search (number-turn, needs)
@@ -47,17 +32,5 @@ returns c = search (number-done, needs)
 
 pub starts-of-spec : {M : Type 1} → statement M
 starts-of-spec =
-    tie.close
-    (tie.spec
-    Inv-loop
-    μ-loop
-    loop-holds
-    sub-loop
-    mul-made
-    add-start-of
-    start-of-requires
-    add-made
-    add-t
-    loop-less
-    loop-again
-    returns)
+    tie.close (tie.spec Inv-loop μ-loop loop-holds (λ c. search needs) mul-made (λ c. search needs)
+    (λ c κs. search needs) add-made (λ c. search needs) (λ c. search needs) loop-again returns)
