@@ -131,10 +131,6 @@ module _ (m n t : ℕ) (count : t ≡ trailingZeros 32 m) (fits : m < 2 ^ n) (sm
   pub lowest-set : bit m t ≡ 1
   lowest-set = is-lowest .set
 
-  -- no lower one is
-  pub lowest-least : (j : ℕ) → j < t → bit m j ≡ 0
-  lowest-least = is-lowest .least
-
   -- it is one of the n bits
   pub lowest-below : t < n
   lowest-below = by-below t n (λ l. l) (λ l. absurd (omega (arith, lowest-set, bits-past m n t fits l)))

@@ -152,20 +152,6 @@ number-along n i j h = omega arith
 pub number-next-row : (n i : ℕ) → 1 ≤ i → i < n → number n (suc i) (suc (suc i)) ≡ suc (number n i n)
 number-next-row n i l h = omega (arith, rowsBefore-suc n i l (omega arith))
 
--- from row to row the number before the first pair rises by the length of the row
-pub number-rows : (n i : ℕ) → 1 ≤ i → i ≤ n → number n (suc i) (suc i) ≡ number n i i + (n - i)
-number-rows n i l h = nothing-more (rowsBefore n (suc i)) (rowsBefore n i) (n - i) (suc i - suc i) (i - i) (rowsBefore-suc n i l h) (omega arith) (omega arith)
-  where
-    nothing-more : (x y d z w : ℕ) → x ≡ y + d → z ≡ 0 → w ≡ 0 → x + z ≡ y + w + d
-    nothing-more x y d z w p q r = omega arith
-
--- up to the number of pairs
-pub number-end : (n : ℕ) → number n (suc n) (suc n) ≡ pairCount n
-number-end n =
-    let a : suc n - 1 ≡ n = omega arith in
-    let b : 2 * n - suc n ≡ n - 1 = omega arith in
-    rw (a, b) (omega arith)
-
 -- ---- the pairs from a given one on
 
 -- a row from its d-th pair on

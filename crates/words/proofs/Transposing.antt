@@ -45,9 +45,6 @@ module _ (s m c : ℕ) (h : Halves s m c) (rows : List ℕ) where
   come-from : (i k x y : ℕ) → x ≡ from-row i k → y ≡ from-bit i k → bit (getD rows x 0) y ≡ bit (getD rows (from-row i k) 0) (from-bit i k)
   come-from i k x y e f = ap₂ (λ (p q : ℕ). bit (getD rows p 0) q) e f
 
-  product : (x y : ℕ) → y ≡ 0 → s * y ≡ 0
-  product x y e = rw e (omega arith)
-
   pub stage-bit : (i k : ℕ) → i < 32 → k < 32 → bit (getD (placed (staged s m c rows) 32) i 0) k ≡ bit (getD rows (from-row i k) 0) (from-bit i k)
   stage-bit i k li lk =
       by-same (i % 2) 0
