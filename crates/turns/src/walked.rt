@@ -98,7 +98,7 @@ fn is_alike(n: u32, i: u32, ones: u32, marks: u32, later: u32) -> bool
     false
 }
 
-// The walk along the pairs of row i.
+// The walk along the pairs of row i. It goes on where there is no edge after place i and the vertex there has no mark.
 fn pairs_walk<'a>(
     edges: &'a [u32; 32],
     unknowns: &'a [u32; 32],
@@ -112,6 +112,9 @@ fn pairs_walk<'a>(
     let u = vertex_at(path, i);
     let ones = edges_of(edges, i);
     let marks = marks_of(edges, unknowns, u);
+    if ((ones >> i) | marks) == 0 {
+        return 0;
+    }
     let mut j = i + 1;
     while j <= n {
         let v = vertex_at(path, j);
@@ -174,20 +177,6 @@ fn later_rows<'a>(edges: &'a [u32; 32], unknowns: &'a [u32; 32], path: &'a [u8; 
     0
 }
 
-// The walk along row 2. It goes on where it has no edge after its place and the vertex there no mark.
-fn second_walk<'a>(edges: &'a [u32; 32], unknowns: &'a [u32; 32], path: &'a [u8; 32], n: u32) -> u32
-    requires { ⌜ (3 ≤ n) × (n ≤ 32) × Within n (now path) ⌝ }
-    ensures { λ r. ⌜ r ≡ walkCode (turnAt (now (edges .entry)) (now (unknowns .entry)) (now (path .entry))) (alongRow 2 (2 + 1) (n + 1 - (2 + 1))) ⌝ }
-{
-    let u = vertex_at(path, 2);
-    let ones = edges_of(edges, 2);
-    let marks = marks_of(edges, unknowns, u);
-    if ((ones >> 2) | marks) == 0 {
-        return 0;
-    }
-    pairs_walk(edges, unknowns, path, n, 2)
-}
-
 // The walk along the rows after the first. Most walks end in the second, which is walked pair by pair.
 pub fn rows_walk<'a>(
     edges: &'a [u32; 32],
@@ -201,7 +190,7 @@ pub fn rows_walk<'a>(
     if n < 3 {
         return 0;
     }
-    let code = second_walk(edges, unknowns, path, n);
+    let code = pairs_walk(edges, unknowns, path, n, 2);
     if code == 0 {
         return later_rows(edges, unknowns, path, n);
     }
