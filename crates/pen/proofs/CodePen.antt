@@ -1,13 +1,12 @@
 -- What the code of the pen comes to.
 use Prim.Native.Nat.{ℕ, zero, suc, _+_, _-_, _*_, _/_, _%_, _^_, _≤_, _<_}
-use native.Mathlib.Nat.{lt-of-lt-of-le, mul-le-mul-right, one-mul, suc-mul}
+use native.Mathlib.Nat.{lt-of-lt-of-le, mul-le-mul-right, suc-mul}
 use native.Mathlib.Numerals.{add-one}
 use native.Mathlib.Omega.{arith}
 use mathlib.Core.Path.{_≡_, refl, ap, _∙_}
 use mathlib.Core.List.{List}
-use lib.Dec.{lit<}
 use lib.ListN.{length, set, length-set}
-use lib.Pow.{shl-exact, shr-lt, pow-add, pow-mono, pow-pos}
+use lib.Pow.{shl-exact, shr-lt, pow-add, pow-mono}
 use mir.Syntax.{w64}
 use mir.Val.{Fits}
 use borrow.Author.Tests.{lt-ltb, le-ltb}
@@ -17,13 +16,6 @@ use Rattle.pen.specs.Pushed.{stored, IsPushed}
 
 abbrev pub pen : ℕ → ℕ → ℕ → Pen
 pen s h k = record { stored = s; have = h; kept = k }
-
--- 1 << k is 2 ^ k
-pub shifted-one : (k : ℕ) → k < 64 → 1 * 2 ^ k % 2 ^ 64 ≡ 2 ^ k
-shifted-one k l = shl-exact 1 k 64 (lit< tt) (omega arith) ∙ one-mul (2 ^ k)
-
-pub shifted-some : (k : ℕ) → k < 64 → 1 ≤ 1 * 2 ^ k % 2 ^ 64
-shifted-some k l = rw (shifted-one k l) (pow-pos k)
 
 -- ---- bytes of a word
 

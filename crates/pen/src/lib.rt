@@ -4,20 +4,13 @@ ghost use mathlib.Core.Path.{_≡_};
 ghost use Prim.Native.Nat.{_+_, _*_, _≤_, _<_, _^_};
 ghost use lib.ListN.{length};
 ghost use Rattle.pen.specs.Pushed.{stored, IsPushed};
+use words::limit_of;
 
 // How many bytes are stored, how many bits wait, and these bits as a number.
 pub struct Pen {
     pub stored: usize,
     pub have: u32,
     pub kept: u64,
-}
-
-// 2 to the k.
-fn power(k: u32) -> u64
-    requires { ⌜ k < 64 ⌝ }
-    ensures { λ r. ⌜ (r ≡ 2 ^ k) × (1 ≤ r) ⌝ }
-{
-    1u64 << k
 }
 
 // Stores the first bytes of a word of eight, the most significant first.
@@ -51,6 +44,6 @@ pub fn push(out: &mut [u8], pen: Pen, v: u64, w: u32) -> Pen
     Pen {
         stored: at + 8,
         have: over,
-        kept: v % power(over),
+        kept: v % limit_of(over),
     }
 }

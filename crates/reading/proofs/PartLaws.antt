@@ -71,7 +71,7 @@ pub pad-short : (n u b : ℕ) → u ≡ bitCount n → b ≡ byteCount n → 8 *
 unfolding byteCount
 pad-short n u b e d = omega arith
 
-pub pad-within : (n u b : ℕ) → u ≡ bitCount n → b ≡ byteCount n → 8 * b - u ≤ 32
+pub pad-within : (n u b : ℕ) → u ≡ bitCount n → b ≡ byteCount n → 8 * b - u < 64
 pad-within n u b e d = omega (arith, pad-short n u b e d)
 
 -- they are the padding

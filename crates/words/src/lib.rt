@@ -15,9 +15,9 @@ pub fn wide(x: u32) -> u64
     x as u64
 }
 
-// 2 to the k, up to the 32nd power.
+// 2 to the k, as a number of 64 bits.
 pub fn limit_of(k: u32) -> u64
-    requires { ⌜ k ≤ 32 ⌝ }
+    requires { ⌜ k < 64 ⌝ }
     ensures { λ r. ⌜ (r ≡ 2 ^ k) × (1 ≤ r) ⌝ }
 {
     1u64 << k
