@@ -83,6 +83,10 @@ module _ (s m z : ℕ) (h : Folds s m) (apart : Apart s z) where
       let y : 2 * s + (4 * s * a + r) ≡ 2 * s * 1 + (4 * s * a + r) = omega arith in
       rw e (ap (bit (fold s m z)) x ∙ from-above a r lr (omega arith) ∙ ap (bit z) y))
 
+  -- the same for any two places that are these
+  comes : (a b r to from : ℕ) → b ≤ 1 → r < s → s + (4 * s * a + r) < 64 → to ≡ s * (1 - b) + (4 * s * a + r) → 2 * s * b + (4 * s * a + r) ≡ from → bit (fold s m z) to ≡ bit z from
+  comes a b r to from lb lr l e f = ap (bit (fold s m z)) e ∙ moves a b r lb lr l ∙ ap (bit z) f
+
   fold-apart : Apart (2 * s) (fold s m z)
   unfolding fold
   fold-apart p e =
@@ -158,51 +162,36 @@ module _ (z k : ℕ) (l : k < 32) where
   after-1 a =
       let b : k / 1 ≡ 2 * (k / 2) + k / 1 % 2 = omega arith in
       let c : k % 2 ≡ 1 * (k / 1 % 2) + k % 1 = omega arith in
-      let to : 4 * (k / 2) + (1 - k % 2) ≡ 1 * (1 - k / 1 % 2) + (4 * 1 * (k / 2) + (0 - k % 1)) = omega arith in
-      let from : 2 * 1 * (k / 1 % 2) + (4 * 1 * (k / 2) + (0 - k % 1)) ≡ 2 * k = omega arith in
-      ap (bit (fold 1 0x3333333333333333 z)) to
-      ∙ moves 1 0x3333333333333333 z folds-1 a (k / 2) (k / 1 % 2) (0 - k % 1) (omega arith) (omega arith) (omega arith)
-      ∙ ap (bit z) from
+      comes 1 0x3333333333333333 z folds-1 a (k / 2) (k / 1 % 2) (0 - k % 1) _ _
+      (omega arith) (omega arith) (omega arith) (omega arith) (omega arith)
 
   after-2 : Apart 2 z → bit (fold 2 0x0f0f0f0f0f0f0f0f z) (8 * (k / 4) + (3 - k % 4)) ≡ bit z (4 * (k / 2) + (1 - k % 2))
   after-2 a =
       let b : k / 2 ≡ 2 * (k / 4) + k / 2 % 2 = omega arith in
       let c : k % 4 ≡ 2 * (k / 2 % 2) + k % 2 = omega arith in
-      let to : 8 * (k / 4) + (3 - k % 4) ≡ 2 * (1 - k / 2 % 2) + (4 * 2 * (k / 4) + (1 - k % 2)) = omega arith in
-      let from : 2 * 2 * (k / 2 % 2) + (4 * 2 * (k / 4) + (1 - k % 2)) ≡ 4 * (k / 2) + (1 - k % 2) = omega arith in
-      ap (bit (fold 2 0x0f0f0f0f0f0f0f0f z)) to
-      ∙ moves 2 0x0f0f0f0f0f0f0f0f z folds-2 a (k / 4) (k / 2 % 2) (1 - k % 2) (omega arith) (omega arith) (omega arith)
-      ∙ ap (bit z) from
+      comes 2 0x0f0f0f0f0f0f0f0f z folds-2 a (k / 4) (k / 2 % 2) (1 - k % 2) _ _
+      (omega arith) (omega arith) (omega arith) (omega arith) (omega arith)
 
   after-4 : Apart 4 z → bit (fold 4 0x00ff00ff00ff00ff z) (16 * (k / 8) + (7 - k % 8)) ≡ bit z (8 * (k / 4) + (3 - k % 4))
   after-4 a =
       let b : k / 4 ≡ 2 * (k / 8) + k / 4 % 2 = omega arith in
       let c : k % 8 ≡ 4 * (k / 4 % 2) + k % 4 = omega arith in
-      let to : 16 * (k / 8) + (7 - k % 8) ≡ 4 * (1 - k / 4 % 2) + (4 * 4 * (k / 8) + (3 - k % 4)) = omega arith in
-      let from : 2 * 4 * (k / 4 % 2) + (4 * 4 * (k / 8) + (3 - k % 4)) ≡ 8 * (k / 4) + (3 - k % 4) = omega arith in
-      ap (bit (fold 4 0x00ff00ff00ff00ff z)) to
-      ∙ moves 4 0x00ff00ff00ff00ff z folds-4 a (k / 8) (k / 4 % 2) (3 - k % 4) (omega arith) (omega arith) (omega arith)
-      ∙ ap (bit z) from
+      comes 4 0x00ff00ff00ff00ff z folds-4 a (k / 8) (k / 4 % 2) (3 - k % 4) _ _
+      (omega arith) (omega arith) (omega arith) (omega arith) (omega arith)
 
   after-8 : Apart 8 z → bit (fold 8 0x0000ffff0000ffff z) (32 * (k / 16) + (15 - k % 16)) ≡ bit z (16 * (k / 8) + (7 - k % 8))
   after-8 a =
       let b : k / 8 ≡ 2 * (k / 16) + k / 8 % 2 = omega arith in
       let c : k % 16 ≡ 8 * (k / 8 % 2) + k % 8 = omega arith in
-      let to : 32 * (k / 16) + (15 - k % 16) ≡ 8 * (1 - k / 8 % 2) + (4 * 8 * (k / 16) + (7 - k % 8)) = omega arith in
-      let from : 2 * 8 * (k / 8 % 2) + (4 * 8 * (k / 16) + (7 - k % 8)) ≡ 16 * (k / 8) + (7 - k % 8) = omega arith in
-      ap (bit (fold 8 0x0000ffff0000ffff z)) to
-      ∙ moves 8 0x0000ffff0000ffff z folds-8 a (k / 16) (k / 8 % 2) (7 - k % 8) (omega arith) (omega arith) (omega arith)
-      ∙ ap (bit z) from
+      comes 8 0x0000ffff0000ffff z folds-8 a (k / 16) (k / 8 % 2) (7 - k % 8) _ _
+      (omega arith) (omega arith) (omega arith) (omega arith) (omega arith)
 
   after-16 : Apart 16 z → bit (fold 16 0x00000000ffffffff z) (31 - k) ≡ bit z (32 * (k / 16) + (15 - k % 16))
   after-16 a =
       let b : k / 16 ≡ 2 * (k / 32) + k / 16 % 2 = omega arith in
       let c : k % 32 ≡ 16 * (k / 16 % 2) + k % 16 = omega arith in
-      let to : 31 - k ≡ 16 * (1 - k / 16 % 2) + (4 * 16 * (k / 32) + (15 - k % 16)) = omega arith in
-      let from : 2 * 16 * (k / 16 % 2) + (4 * 16 * (k / 32) + (15 - k % 16)) ≡ 32 * (k / 16) + (15 - k % 16) = omega arith in
-      ap (bit (fold 16 0x00000000ffffffff z)) to
-      ∙ moves 16 0x00000000ffffffff z folds-16 a (k / 32) (k / 16 % 2) (15 - k % 16) (omega arith) (omega arith) (omega arith)
-      ∙ ap (bit z) from
+      comes 16 0x00000000ffffffff z folds-16 a (k / 32) (k / 16 % 2) (15 - k % 16) _ _
+      (omega arith) (omega arith) (omega arith) (omega arith) (omega arith)
 
 pub gathered-is : (x a b c d r : ℕ) → a ≡ fold 1 0x3333333333333333 (bitAnd x 0x5555555555555555)
     → b ≡ fold 2 0x0f0f0f0f0f0f0f0f a → c ≡ fold 4 0x00ff00ff00ff00ff b

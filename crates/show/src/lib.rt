@@ -19,27 +19,25 @@ pub fn from_column(row: &[u8], column: usize) {
     }
 }
 
-// The byte at an index of a template, or the next value where that is a #. Gives the index of the value after it.
-fn filled_at(template: &[u8], i: usize, values: [u64; 6], k: usize) -> usize {
-    if i < template.len() {
-        if template[i] != b'#' {
-            text(&template[i..i + 1]);
-            return k;
-        }
-        if k < 6 {
-            io::print_decimal(STDOUT_FILENO, values[k]);
-            return k + 1;
-        }
+// The value at an index, if there is one.
+fn value(values: [u64; 6], k: usize) {
+    if k < 6 {
+        io::print_decimal(STDOUT_FILENO, values[k]);
     }
-    k
 }
 
 // A template with the values put where it has #, one after the other.
 pub fn filled(template: &[u8], values: [u64; 6]) {
-    let mut k = 0;
+    let mut k = 0usize;
     let mut i = 0;
     while i < template.len() {
-        k = filled_at(template, i, values, k);
-        i += 1;
+        if template[i] == b'#' {
+            value(values, k);
+            k += 1;
+            i += 1;
+        } else {
+            text(&template[i..i + 1]);
+            i += 1;
+        }
     }
 }
