@@ -88,21 +88,16 @@ extent-bytes s x e = omega (arith, ap (λ (y : Extent). y .bytes) e, extent-smal
 pub size-made : (s : List ℕ) (x : Extent) → x ≡ recordAt s → (y : ℕ) → y ≡ packedExtent x → y ≡ packedExtent (recordAt s)
 size-made s x e y q = rw e at q
 
--- the graph h is the one that the rows make
-module _ (g h : Graph) (same : h ≡ g) (out : List ℕ) where
-  module _ (x : Written) (e : x ≡ writeAnswer h out) where
-    -- writing is refused by a small number
-    pub written-number : x .refusal < 128
-    written-number = omega (arith, ap (λ (y : Written). y .refusal) e, written-small h out)
+-- the record that is written
+module _ (g : Graph) (out : List ℕ) (x : Written) (e : x ≡ writeAnswer g out) where
+  -- writing is refused by a small number
+  pub written-number : x .refusal < 128
+  written-number = omega (arith, ap (λ (y : Written). y .refusal) e, written-small g out)
 
-    -- and writes few bytes
-    pub written-bytes : x .written ≤ 129
-    written-bytes = omega (arith, ap (λ (y : Written). y .written) e, written-small h out)
+  -- and writes few bytes
+  pub written-bytes : x .written ≤ 129
+  written-bytes = omega (arith, ap (λ (y : Written). y .written) e, written-small g out)
 
-    -- the number told is that of the graph
-    pub writing-made : (y : ℕ) → y ≡ packedWritten x → y ≡ packedWritten (writeAnswer g out)
-    writing-made y q = q ∙ ap packedWritten (e ∙ ap (λ (z : Graph). writeAnswer z out) same)
-
-  -- and so are the bytes
-  pub writing-buffer : (after : List ℕ) → after ≡ bufferAfter h out → after ≡ bufferAfter g out
-  writing-buffer after q = q ∙ ap (λ (z : Graph). bufferAfter z out) same
+  -- the number told is that of the graph
+  pub writing-made : (y : ℕ) → y ≡ packedWritten x → y ≡ packedWritten (writeAnswer g out)
+  writing-made y q = rw e at q

@@ -2,12 +2,11 @@
 // An answer is one number: bits 0..31 the steps, or the place of a refusal; 32..37 the row and 38..43 the column of the
 // standing pair; 44..52 how many literals were written; 56..63 the code: 0 none, 1 smaller, 2 cut, 128 and the number of a
 // refusal.
-use graph::Graph;
 use packing::counted;
 use packing::refused;
 use packing::tell;
-use search::judge;
-use search::judge_checked;
+use search::judge_formed;
+use search::judge_rows;
 ghost use mathlib.Core.Path.{_≡_};
 ghost use lib.ListN.{length};
 ghost use Rattle.record.specs.Answers.{recordAt, writeAnswer, bufferAfter};
@@ -16,20 +15,6 @@ ghost use Rattle.packing.specs.Packing.{packed};
 ghost use Rattle.packing.specs.Telling.{arrangedAfter};
 ghost use Rattle.cafruzek.specs.Answers.{judgeRecord, judgeRecordBuffer, packedExtent, packedWritten};
 ghost use Rattle.graph.specs.Graph.{graphOf};
-
-// The graph value of these rows.
-fn graph_of<'a, 'b>(order: u32, edges: &'a [u32; 32], unknowns: &'b [u32; 32], starts: u32) -> Graph
-    ensures { λ r. ⌜ r ≡ graphOf order (now (edges .entry)) (now (unknowns .entry)) starts ⌝ }
-{
-    let e = *edges;
-    let u = *unknowns;
-    Graph {
-        order,
-        edges: e,
-        unknowns: u,
-        starts,
-    }
-}
 
 // Judges the graph of the record that the bytes begin with; bytes after it are ignored. A reading that is refused is the
 // answer. "Smaller" writes the clause at the start of literals and the certificate to arrangement; no other answer changes
@@ -48,25 +33,31 @@ pub extern "C" fn cafruzek_judge_record<'a, 'b, 'c>(
         return refused(found.refusal, found.place);
     }
     let graph = found.graph;
-    let answer = judge_checked(graph, budget, literals);
+    let answer = judge_formed(
+        graph.order,
+        &graph.edges,
+        &graph.unknowns,
+        graph.starts,
+        budget,
+        literals,
+    );
     tell(answer, arrangement)
 }
 
 // Judges the graph value of these rows. It writes as cafruzek_judge_record does.
 #[no_mangle]
-pub extern "C" fn cafruzek_judge_rows<'a, 'b, 'c, 'd>(
+pub extern "C" fn cafruzek_judge_rows<'a, 'b, 'c>(
     order: u32,
     edges: &'a [u32; 32],
-    unknowns: &'b [u32; 32],
+    unknowns: &'a [u32; 32],
     starts: u32,
     budget: u32,
-    literals: &'c mut [i32],
-    arrangement: &'d mut [u8; 32],
+    literals: &'b mut [i32],
+    arrangement: &'c mut [u8; 32],
 ) -> u64
     ensures { λ r. ⌜ (r ≡ packed (judgeAnswer (graphOf order (now (edges .entry)) (now (unknowns .entry)) starts) budget (length (now (literals .entry))))) × (now (literals .exit) ≡ judgeBuffer (graphOf order (now (edges .entry)) (now (unknowns .entry)) starts) budget (now (literals .entry))) × (now (arrangement .exit) ≡ arrangedAfter (judgeAnswer (graphOf order (now (edges .entry)) (now (unknowns .entry)) starts) budget (length (now (literals .entry)))) (now (arrangement .entry))) ⌝ }
 {
-    let graph = graph_of(order, edges, unknowns, starts);
-    let answer = judge(graph, budget, literals);
+    let answer = judge_rows(order, edges, unknowns, starts, budget, literals);
     tell(answer, arrangement)
 }
 
@@ -82,15 +73,15 @@ pub extern "C" fn cafruzek_record_size(bytes: &[u8]) -> u64
 // Writes the record of the graph value of these rows at the start of out, and nothing after it, and answers how many
 // bytes that is. A refusal changes nothing.
 #[no_mangle]
-pub extern "C" fn cafruzek_write_record<'a, 'b, 'c>(
+pub extern "C" fn cafruzek_write_record<'a, 'b>(
     order: u32,
     edges: &'a [u32; 32],
-    unknowns: &'b [u32; 32],
+    unknowns: &'a [u32; 32],
     starts: u32,
-    out: &'c mut [u8],
+    out: &'b mut [u8],
 ) -> u64
     ensures { λ r. ⌜ (r ≡ packedWritten (writeAnswer (graphOf order (now (edges .entry)) (now (unknowns .entry)) starts) (now (out .entry)))) × (now (out .exit) ≡ bufferAfter (graphOf order (now (edges .entry)) (now (unknowns .entry)) starts) (now (out .entry))) ⌝ }
 {
-    let done = writing::write(graph_of(order, edges, unknowns, starts), out);
+    let done = writing::write_rows(order, edges, unknowns, starts, out);
     counted(done.refusal, done.place, done.written)
 }

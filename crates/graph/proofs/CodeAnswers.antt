@@ -9,7 +9,7 @@ use lib.ListN.{length}
 use lib.Dec.{leb, lit<}
 use borrow.Author.Tests.{eq-eqb, le-leb, lt-leb}
 use Rattle.laws.specs.Test.{both}
-use Rattle.laws.specs.TestLaws.{both-first}
+use Rattle.laws.specs.TestLaws.{both-first, first-fails, second-fails}
 use Rattle.laws.specs.UpTo.{allUpTo, sumUpTo}
 use Rattle.laws.specs.UpToLaws.{word-same}
 use Rattle.graph.specs.declared.Graph.{Graph}
@@ -32,19 +32,19 @@ use Rattle.graph.proofs.Relabelling.{brought, broughtEdges, broughtUnkn
 
 -- ---- well-formedness, from its parts
 
-module _ (g : Graph) (e : length (g .edges) ≡ 32) (u : length (g .unknowns) ≡ 32) (b : Bool) (o : b ≡ orderFits (g .order)) where
+module _ (g : Graph) (b : Bool) (o : b ≡ orderFits (g .order)) where
   pub formed-not-order : b ≡ false → false ≡ wellFormed g
-  unfolding wellFormed both
-  formed-not-order h = rw (eq-eqb (length (g .edges)) 32 e, eq-eqb (length (g .unknowns)) 32 u, sym o ∙ h)
+  unfolding wellFormed
+  formed-not-order h = sym (second-fails _ _ (first-fails _ _ (sym o ∙ h)))
 
-  module _ (h : b ≡ true) (c : Bool) (s : c ≡ startsFit (g .order) (g .starts)) where
+  module _ (c : Bool) (s : c ≡ startsFit (g .order) (g .starts)) where
     pub formed-not-starts : c ≡ false → false ≡ wellFormed g
-    unfolding wellFormed both
-    formed-not-starts k = rw (eq-eqb (length (g .edges)) 32 e, eq-eqb (length (g .unknowns)) 32 u, sym o ∙ h, sym s ∙ k)
+    unfolding wellFormed
+    formed-not-starts k = sym (second-fails _ _ (second-fails _ _ (first-fails _ _ (sym s ∙ k))))
 
-    pub formed-rows : (d : Bool) → c ≡ true → d ≡ allUpTo (rowFits (g .order) (g .edges) (g .unknowns)) 32 → d ≡ wellFormed g
+    pub formed-rows : b ≡ true → c ≡ true → (d : Bool) → d ≡ allUpTo (rowFits (g .order) (g .edges) (g .unknowns)) 32 → length (g .edges) ≡ 32 → length (g .unknowns) ≡ 32 → d ≡ wellFormed g
     unfolding wellFormed both
-    formed-rows d k r = rw (eq-eqb (length (g .edges)) 32 e, eq-eqb (length (g .unknowns)) 32 u, sym o ∙ h, sym s ∙ k) r
+    formed-rows h k d r e u = rw (eq-eqb (length (g .edges)) 32 e, eq-eqb (length (g .unknowns)) 32 u, sym o ∙ h, sym s ∙ k) r
 
 -- ---- what the tests tell
 

@@ -1,5 +1,7 @@
 // Graph values, their entries, blocks and counts. Vertices are numbered from 1.
 ghost use mathlib.Core.Path.{_≡_};
+ghost use lib.ListN.{length};
+ghost use Rattle.graph.specs.Graph.{graphOf};
 ghost use Rattle.graph.specs.WellFormed.{wellFormed};
 ghost use Rattle.graph.specs.Answers.{noGraph, changed, readAnswer, setAnswer, countAnswer, degreeAnswer, relabelAnswer};
 use arrangements::moved::moved_rows;
@@ -73,14 +75,7 @@ impl Graph {
     pub fn is_well_formed(self) -> bool
         ensures { λ r. ⌜ r ≡ wellFormed self ⌝ }
     {
-        let order = self.order;
-        if order_fits(order) {
-            if starts_fit(order, self.starts) {
-                return rows_fit(order, &self.edges, &self.unknowns);
-            }
-            return false;
-        }
-        false
+        is_formed(self.order, &self.edges, &self.unknowns, self.starts)
     }
 
     // The entry at (i, j).
@@ -200,6 +195,34 @@ impl Graph {
         }
         answer(8, Graph::none())
     }
+}
+
+// Says that an array of rows has them all, which a reference to it does not tell.
+fn whole(rows: [u32; 32]) -> bool
+    ensures { λ r. ⌜ length rows ≡ 32 ⌝ }
+{
+    true
+}
+
+// Is the graph value of these rows well formed?
+pub fn is_formed<'a>(
+    order: u32,
+    edges: &'a [u32; 32],
+    unknowns: &'a [u32; 32],
+    starts: u32,
+) -> bool
+    ensures { λ r. ⌜ r ≡ wellFormed (graphOf order (now (edges .entry)) (now (unknowns .entry)) starts) ⌝ }
+{
+    if order_fits(order) {
+        if starts_fit(order, starts) {
+            let fit = rows_fit(order, edges, unknowns);
+            whole(*edges);
+            whole(*unknowns);
+            return fit;
+        }
+        return false;
+    }
+    false
 }
 
 // The graph that is answered, with a refusal's number.

@@ -22,6 +22,7 @@ use exploring::explore::Explored;
 use exploring::explore::explore;
 use exploring::masks::block_masks;
 use graph::Graph;
+use graph::is_formed;
 use judging::Judged;
 use judging::Verdict;
 use pairs::pair_count;
@@ -74,7 +75,7 @@ fn certify<'a, 'b>(
 }
 
 // The answer for a well-formed graph and a buffer with room.
-fn judge_formed<'a, 'b>(
+fn judge_with_room<'a, 'b>(
     n: u32,
     edges: &'a [u32; 32],
     unknowns: &'a [u32; 32],
@@ -98,23 +99,43 @@ fn judge_formed<'a, 'b>(
     bare(Verdict::Cut { steps: budget })
 }
 
-// Judges as `judge` does, for a graph that is known to be well formed.
-pub fn judge_checked(graph: Graph, budget: u32, literals: &mut [i32]) -> Judged
-    requires { ⌜ wellFormed graph ≡ true ⌝ }
-    ensures { λ r. ⌜ (r ≡ judgeAnswer graph budget (length (now (literals .entry)))) × (now (literals .exit) ≡ judgeBuffer graph budget (now (literals .entry))) ⌝ }
+// Judges the graph of these rows as `judge` does, where it is known to be well formed.
+pub fn judge_formed<'a, 'b>(
+    order: u32,
+    edges: &'a [u32; 32],
+    unknowns: &'a [u32; 32],
+    starts: u32,
+    budget: u32,
+    literals: &'b mut [i32],
+) -> Judged
+    requires { ⌜ wellFormed (graphOf order (now edges) (now unknowns) starts) ≡ true ⌝ }
+    ensures { λ r. ⌜ (r ≡ judgeAnswer (graphOf order (now (edges .entry)) (now (unknowns .entry)) starts) budget (length (now (literals .entry)))) × (now (literals .exit) ≡ judgeBuffer (graphOf order (now (edges .entry)) (now (unknowns .entry)) starts) budget (now (literals .entry))) ⌝ }
 {
-    if has_room(graph.order, literals.len()) {
-        return judge_formed(
-            graph.order,
-            &graph.edges,
-            &graph.unknowns,
-            graph.starts,
-            budget,
-            literals,
-        );
+    if has_room(order, literals.len()) {
+        return judge_with_room(order, edges, unknowns, starts, budget, literals);
     }
     bare(Verdict::Refused {
         number: 5,
+        place: 0,
+    })
+}
+
+// Judges the graph of these rows as `judge` does. They are only read, and no graph is made of them.
+pub fn judge_rows<'a, 'b>(
+    order: u32,
+    edges: &'a [u32; 32],
+    unknowns: &'a [u32; 32],
+    starts: u32,
+    budget: u32,
+    literals: &'b mut [i32],
+) -> Judged
+    ensures { λ r. ⌜ (r ≡ judgeAnswer (graphOf order (now (edges .entry)) (now (unknowns .entry)) starts) budget (length (now (literals .entry)))) × (now (literals .exit) ≡ judgeBuffer (graphOf order (now (edges .entry)) (now (unknowns .entry)) starts) budget (now (literals .entry))) ⌝ }
+{
+    if is_formed(order, edges, unknowns, starts) {
+        return judge_formed(order, edges, unknowns, starts, budget, literals);
+    }
+    bare(Verdict::Refused {
+        number: 8,
         place: 0,
     })
 }
@@ -124,11 +145,12 @@ pub fn judge_checked(graph: Graph, budget: u32, literals: &mut [i32]) -> Judged
 pub fn judge(graph: Graph, budget: u32, literals: &mut [i32]) -> Judged
     ensures { λ r. ⌜ (r ≡ judgeAnswer graph budget (length (now (literals .entry)))) × (now (literals .exit) ≡ judgeBuffer graph budget (now (literals .entry))) ⌝ }
 {
-    if graph.is_well_formed() {
-        return judge_checked(graph, budget, literals);
-    }
-    bare(Verdict::Refused {
-        number: 8,
-        place: 0,
-    })
+    judge_rows(
+        graph.order,
+        &graph.edges,
+        &graph.unknowns,
+        graph.starts,
+        budget,
+        literals,
+    )
 }

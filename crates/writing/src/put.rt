@@ -11,7 +11,6 @@ ghost use Rattle.record.specs.Layout.{bitCount, byteCount, cell};
 ghost use Rattle.record.specs.Writing.{recordOf};
 ghost use Rattle.writing.specs.Reached.{Reached};
 ghost use Rattle.writing.specs.Along.{along};
-use graph::Graph;
 use pen::Pen;
 use pen::push;
 use pen::store;
@@ -84,19 +83,25 @@ fn put_rows<'a, 'b>(
     at
 }
 
-// Writes the record of g at the start of out.
-pub fn put(g: Graph, out: &mut [u8])
-    requires { ⌜ (1 ≤ g .order) × (g .order ≤ 32) × (byteCount (g .order) ≤ length (now out)) ⌝ }
-    ensures { λ r. ⌜ now (out .exit) ≡ recordOf g ++ drop (byteCount (g .order)) (now (out .entry)) ⌝ }
+// Writes the record of the graph of these rows at the start of out.
+pub fn put<'a, 'b>(
+    order: u32,
+    edges: &'a [u32; 32],
+    unknowns: &'a [u32; 32],
+    starts: u32,
+    out: &'b mut [u8],
+)
+    requires { ⌜ (1 ≤ order) × (order ≤ 32) × (byteCount order ≤ length (now out)) ⌝ }
+    ensures { λ r. ⌜ now (out .exit) ≡ recordOf (graphOf order (now (edges .entry)) (now (unknowns .entry)) starts) ++ drop (byteCount order) (now (out .entry)) ⌝ }
 {
     let ordered = Pen {
         stored: 0,
         have: 6,
-        kept: wide(g.order),
+        kept: wide(order),
     };
-    let starts = starts_of(g.starts, g.order);
-    let started = push(out, ordered, starts, g.order - 1);
-    let done = put_rows(g.order, &g.edges, &g.unknowns, g.starts, out, started);
+    let bits = starts_of(starts, order);
+    let started = push(out, ordered, bits, order - 1);
+    let done = put_rows(order, edges, unknowns, starts, out, started);
     let word = (done.kept << (63 - done.have)) * 2;
     store(out, done.stored, word, ((done.have + 7) / 8) as usize);
 }

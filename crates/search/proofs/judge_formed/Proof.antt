@@ -1,31 +1,26 @@
 use borrow.Author.Needs.{needs}
-use Rattle.exploring.proofs.CodeSearch.{order-bounded}
-use Rattle.search.proofs.CodeJudge.{still-zeros, found-begins, found-won, answers-none, answers-cut, answers-first, none-buffer, cut-buffer, smaller-buffer}
+use Rattle.graph.proofs.Formed.{formed}
+use Rattle.search.proofs.CodeJudge.{room-known, answers-judged, answers-cramped}
 use Rattle.search.proofs.judge_formed.Statement.{statement}
 use Rattle.search.proofs.judge_formed.Tie as tie
 
-block-masks-requires : tie.Need-block-masks-requires
-block-masks-requires c κs = search order-bounded
+has-room-requires : tie.Need-has-room-requires
+has-room-requires c κs = let w = formed _ (c .pre) in (w .order-low, w .order-high)
 
-certify-requires : tie.Need-certify-requires
-certify-requires c κs =
-    let end = c .before .before .before .explore in
-    (search needs, search needs, search needs, search needs, found-begins _ _ (end .result) _ (end .ensures .0) (c .before .before .if1 .taken), found-won _ _ (end .result) _ (end .ensures .0) (c .before .before .if1 .taken), search still-zeros)
+judge-with-room-requires : tie.Need-judge-with-room-requires
+judge-with-room-requires c κs = (search needs, search room-known)
 
 returns : tie.Need-returns
-returns c = (search answers-first, search smaller-buffer)
+returns c =
+    let fits = c .before .before .before in
+    answers-judged _ _ _ (fits .before .before .pre) _ (fits .before .has-room .ensures) _ _ (fits .if1 .taken) (c .before .judge-with-room .ensures .0) (c .before .judge-with-room .ensures .1)
 
 returns-2 : tie.Need-returns-2
 returns-2 c =
-    let end = c .before .before .before .explore in
-    (answers-none _ _ (end .result) _ (end .ensures .0) _ (c .before .if2 .taken) (c .bare .ensures), search none-buffer)
-
-returns-3 : tie.Need-returns-3
-returns-3 c =
-    let end = c .before .before .before .explore in
-    (answers-cut _ _ (end .result) _ (end .ensures .0) _ (c .before .if2 .left) (c .before .before .if1 .left) (c .bare2 .ensures), search cut-buffer)
+    let cramped = c .before in
+    answers-cramped _ _ _ (cramped .before .before .pre) _ (cramped .before .has-room .ensures) _ (cramped .if1 .left) (c .bare .ensures)
 
 pub judge-formed-spec : {M : Type 1} → statement M
 judge-formed-spec =
-    tie.close (tie.spec block-masks-requires (λ c κs. search needs) certify-requires (λ c. search needs) returns
-    (λ c κs. search needs) returns-2 (λ c κs. search needs) returns-3)
+    tie.close (tie.spec has-room-requires judge-with-room-requires (λ c. search needs) returns (λ c κs. search needs)
+    returns-2)

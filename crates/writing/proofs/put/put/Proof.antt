@@ -8,7 +8,7 @@ push-requires c κs = (search needs, search needs, search needs, starts-small _ 
 
 put-rows-requires : tie.Need-put-rows-requires
 put-rows-requires c κs =
-    let pushed = c .before .before .before .before .before .before in
+    let pushed = c .before .before .before in
     let given = pushed .before .before .before .before .before .pre in (
       search needs,
       search needs,
@@ -18,7 +18,7 @@ put-rows-requires c κs =
 mul-word : tie.Need-mul-word
 mul-word c =
     let rows = c .before .before .before .before in
-    last-fits _ _ _ _ (rows .before .before .before .before .before .before .before .before .before .before .before .before .pre .0) (rows .put-rows .ensures .0)
+    last-fits _ _ _ _ (rows .before .before .before .before .before .before .before .before .before .pre .0) (rows .put-rows .ensures .0)
 
 store-requires : tie.Need-store-requires
 store-requires c κs =
@@ -28,7 +28,7 @@ store-requires c κs =
 returns : tie.Need-returns
 returns c =
     let rows = c .before .before .before .before .before .before .before .before .before in
-    let pushed = rows .before .before .before .before .before .before .before in
+    let pushed = rows .before .before .before .before in
     let given = pushed .before .before .before .before .before .pre in
     all-stored _ _ (given .0) (given .1) (given .2) _ (pushed .before .before .before .wide .ensures) _ _ _ _ _ _
     (pushed .before .before .starts-of .ensures) (pushed .push .ensures) (rows .put-rows .ensures .0) (rows .put-rows .ensures .1) (c .before .before .store .ensures)
