@@ -5,8 +5,9 @@
  * completion smaller. Of a fully drawn graph it says that none is smaller.
  *
  * Each function is one call on memory that the caller lends for that call.
- * Nothing is allocated, nothing is kept between two calls, and calls from several
- * threads may run at once, each with its own buffers.
+ * Nothing is allocated, nothing is kept between two calls, a call takes less than
+ * 2 KiB of the stack, and calls from several threads may run at once, each with its
+ * own buffers.
  *
  * Vertices and places are numbered from 1. A pair is two vertices i < j. Pairs are
  * numbered from 1 in row order, (1,2), (1,3), .., (1,n), (2,3), and so on: the
