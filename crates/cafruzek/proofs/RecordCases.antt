@@ -1,7 +1,7 @@
 -- The answer of judging a record in each of its cases, as the code makes it.
 use Prim.Native.Nat.{ℕ, _≤_, _<_}
 use native.Mathlib.Omega.{arith}
-use mathlib.Core.Path.{_≡_, ap, _∙_}
+use mathlib.Core.Path.{_≡_, ap}
 use mathlib.Core.Bool.{true}
 use mathlib.Core.List.{List}
 use borrow.Author.Tests.{eq-eqb, ne-eqb}
@@ -14,13 +14,13 @@ use Rattle.graph.proofs.Formed.{tested}
 use Rattle.record.specs.declared.Extent.{Extent}
 use Rattle.record.specs.declared.Record.{Record}
 use Rattle.record.specs.declared.Written.{Written}
-use Rattle.record.specs.Answers.{recordAt, readAnswer, writeAnswer, bufferAfter}
+use Rattle.record.specs.Answers.{recordAt, readAnswer, writeAnswer}
 use Rattle.record.proofs.ReadWritten.{read-formed}
 use Rattle.judging.specs.declared.Judged.{Judged}
 use Rattle.judging.specs.Answer.{told, without, judgeAnswer, judgeBuffer}
 use Rattle.packing.specs.Packing.{refusal, codeTold, lowTold, packed}
 use Rattle.packing.specs.Telling.{arrangedBy, arrangedAfter}
-use Rattle.cafruzek.specs.Answers.{judgeRecord, judgeRecordBuffer, packedExtent, packedWritten}
+use Rattle.cafruzek.specs.Answers.{judgeRecord, judgeRecordBuffer}
 use Rattle.cafruzek.proofs.Bounds.{extent-small, read-small, written-small}
 
 module _ (s : List ℕ) (r : Record) (is-r : r ≡ readAnswer s) where
@@ -84,10 +84,6 @@ extent-number s x e = omega (arith, ap (λ (y : Extent). y .refusal) e, extent-s
 pub extent-bytes : (s : List ℕ) (x : Extent) → x ≡ recordAt s → x .bytes ≤ 129
 extent-bytes s x e = omega (arith, ap (λ (y : Extent). y .bytes) e, extent-small s)
 
--- the size told is that of the record
-pub size-made : (s : List ℕ) (x : Extent) → x ≡ recordAt s → (y : ℕ) → y ≡ packedExtent x → y ≡ packedExtent (recordAt s)
-size-made s x e y q = rw e at q
-
 -- the record that is written
 module _ (g : Graph) (out : List ℕ) (x : Written) (e : x ≡ writeAnswer g out) where
   -- writing is refused by a small number
@@ -97,7 +93,3 @@ module _ (g : Graph) (out : List ℕ) (x : Written) (e : x ≡ writeAnswer g out
   -- and writes few bytes
   pub written-bytes : x .written ≤ 129
   written-bytes = omega (arith, ap (λ (y : Written). y .written) e, written-small g out)
-
-  -- the number told is that of the graph
-  pub writing-made : (y : ℕ) → y ≡ packedWritten x → y ≡ packedWritten (writeAnswer g out)
-  writing-made y q = rw e at q

@@ -1,5 +1,6 @@
 // Graph values, their entries, blocks and counts. Vertices are numbered from 1.
 ghost use mathlib.Core.Path.{_≡_};
+ghost use mathlib.Core.Bool.{true};
 ghost use lib.ListN.{length};
 ghost use Rattle.graph.specs.Graph.{graphOf};
 ghost use Rattle.graph.specs.WellFormed.{wellFormed};
@@ -199,7 +200,7 @@ impl Graph {
 
 // Says that an array of rows has them all, which a reference to it does not tell.
 fn whole(rows: [u32; 32]) -> bool
-    ensures { λ r. ⌜ length rows ≡ 32 ⌝ }
+    ensures { λ r. ⌜ (r ≡ true) × (length rows ≡ 32) ⌝ }
 {
     true
 }

@@ -8,7 +8,6 @@ use lib.ListN.{length, drop}
 use Rattle.laws.specs.Test.{unless}
 use Rattle.graph.specs.declared.Graph.{Graph}
 use Rattle.graph.specs.WellFormed.{wellFormed}
-use Rattle.graph.proofs.Formed.{formed}
 use Rattle.record.specs.Layout.{byteCount}
 use Rattle.record.specs.Writing.{recordOf}
 use Rattle.record.specs.Answers.{written, writeAnswer, bufferAfter}
@@ -17,12 +16,6 @@ module _ (g : Graph) (b : Bool) (is-b : b ≡ wellFormed g) where
   module _ (holds : b ≡ true) where
     well : wellFormed g ≡ true
     well = sym is-b ∙ holds
-
-    pub order-low : 1 ≤ g .order
-    order-low = formed g well .order-low
-
-    pub order-high : g .order ≤ 32
-    order-high = formed g well .order-high
 
     module _ (size : ℕ) (is-size : size ≡ byteCount (g .order)) (out : List ℕ) where
       pub write-short : length out < size → written 6 0 ≡ writeAnswer g out

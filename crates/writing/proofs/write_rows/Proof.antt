@@ -1,5 +1,6 @@
 use borrow.Author.Needs.{needs}
-use Rattle.writing.proofs.WriteCases.{order-low, order-high, write-short, buffer-short, write-done, buffer-done, write-formless, buffer-formless}
+use Rattle.graph.proofs.CodeAnswers.{order-low, order-high}
+use Rattle.writing.proofs.WriteCases.{write-short, buffer-short, write-done, buffer-done, write-formless, buffer-formless}
 use Rattle.writing.proofs.write_rows.Statement.{statement}
 use Rattle.writing.proofs.write_rows.Tie as tie
 
