@@ -14,7 +14,7 @@ use Rattle.beginnings.specs.Beginning.{absent, mayFollow, children}
 -- ---- the test
 
 -- an absent vertex is no member
-absent-true : (b : List ℕ) (v : ℕ) → absent b v ≡ true → List·Memᴰ v b → ⊥
+pub absent-true : (b : List ℕ) (v : ℕ) → absent b v ≡ true → List·Memᴰ v b → ⊥
 unfolding absent both
 absent-true [] v e m = List·Memᴰ·not-nil m
 absent-true (w ∷ b) v e m = go (eqb v w) refl e (List·Memᴰ·cases-cons m) (λ t k. absent-true b v t k)
@@ -25,7 +25,7 @@ absent-true (w ∷ b) v e m = go (eqb v w) refl e (List·Memᴰ·cases-cons m) (
     go false q s (inr k) below = below s k
 
 -- one that is not absent is a member
-absent-false : (b : List ℕ) (v : ℕ) → absent b v ≡ false → List·Memᴰ v b
+pub absent-false : (b : List ℕ) (v : ℕ) → absent b v ≡ false → List·Memᴰ v b
 unfolding absent both
 absent-false [] v e = absurd (false≢true (sym e))
 absent-false (w ∷ b) v e = go (eqb v w) refl e (λ t. absent-false b v t)

@@ -21,8 +21,8 @@ use Rattle.judging.specs.declared.Verdict.the-variants.{Refused}
 use Rattle.judging.specs.declared.Judged.{Judged}
 use Rattle.judging.specs.Judging.{stepsFor}
 use Rattle.judging.specs.Answer.{told, without, judgeAnswer, judgeBuffer}
-use Rattle.judging.specs.Certificates.{Certified}
-use Rattle.judging.specs.Drawings.{FullGraph, EarlierCopy, Smallest, written}
+use Rattle.judging.specs.Certificates.{FullGraph, Certified}
+use Rattle.judging.specs.Drawings.{EarlierCopy, Smallest, written}
 use Rattle.judging.proofs.Exact.{exact-smaller, exact-none, exact-cut, exact-cut-only, not-refused, exact-steps}
 use Rattle.judging.proofs.Sound.{written-sound, written-published}
 use Rattle.judging.proofs.Smallest.{none-tells}

@@ -1,6 +1,6 @@
 // The checker as C, C++ and Rust link it. Each call works on memory that the caller lends for the call, and keeps nothing.
 // An answer is one number: bits 0..31 the steps, or the place of a refusal; 32..37 the row and 38..43 the column of the
-// standing pair; 44..52 how many literals were written; 56..63 the code: 0 none, 1 smaller, 2 cut, 128 and the number of a
+// winning pair; 44..52 how many literals were written; 56..63 the code: 0 none, 1 smaller, 2 cut, 128 and the number of a
 // refusal.
 use packing::counted;
 use packing::refused;

@@ -1,227 +1,165 @@
 -- The pass over the pairs writes the clause: the kind of a pair tells whether the pair, or "not" the pair, is a literal.
-use Prim.Native.Nat.{ℕ, zero, suc, _+_, _≤_, _<_}
-use native.Mathlib.Nat.{le-trans, le-of-lt, suc-le-suc-iff}
+use Prim.Native.Nat.{ℕ, suc, _+_, _≤_, _<_}
 use native.Mathlib.Omega.{arith}
 use mathlib.Core.Path.{_≡_, refl, sym, ap, ap₂, subst, _∙_}
-use mathlib.Core.Logic.{_≢_, ⊎-elim}
-use mathlib.Core.Bool.{Bool, true, false}
-use mathlib.Core.List.{List, [], _∷_, _++_, List·Memᴰ, List·Memᴰ·head, List·Memᴰ·eq-of-singleton, List·Memᴰ·append-cases, Memᴰ·append-left, Memᴰ·append-right}
+use mathlib.Core.Logic.{_≢_, _⊎_, inl, inr, _↔_, ⊎-elim}
+use mathlib.Core.Bool.{Bool, true, false, not}
+use mathlib.Core.List.{List, [], _∷_, _++_, List·Memᴰ, List·Memᴰ·head, List·Memᴰ·eq-of-singleton, List·Memᴰ·append-cases, Memᴰ·append-right}
 use lib.IntN.{ℤ}
 use lib.ListN.{length, drop}
 use lib.Dec.{eqb}
-use borrow.Author.Tests.{leb-true, ltb-true, le-leb, lt-ltb}
-use Rattle.laws.specs.Compared.{by-order, by-below, by-same}
+use borrow.Author.Tests.{eqb-true, eq-eqb}
+use Rattle.laws.specs.Compared.{by-below}
 use Rattle.laws.specs.Each.{Each, each-rest}
-use Rattle.laws.specs.TestLaws.{fails, not-both-ways}
+use Rattle.laws.specs.ListLaws.{mem-split}
+use Rattle.laws.specs.Pigeonhole.{Injects}
+use Rattle.laws.specs.TestLaws.{fails, not-both-ways, same-test}
 use Rattle.walk.specs.Walk.{won}
-use Rattle.walk.specs.Words.{StandsIn}
-use Rattle.walk.specs.Clause.{Literal, absent, present, among, numbered, clauseAfter, clause, Met}
-use Rattle.walk.proofs.Reached.{literals-in-words}
+use Rattle.walk.specs.Clause.{Literal, absent, present, pairIn, FalseIn, among, numbered, clauseAfter, clause}
 use Rattle.walk.proofs.Clause.{among-listed}
+use Rattle.walk.proofs.Literals.{literals-in-words}
+use Rattle.walk.proofs.Meeting.{won-meets}
+use Rattle.schemes.specs.Judging.{walkOf, literalsBy, writtenBy}
+use Rattle.schemes.proofs.Images.{two-kept, image-two, image-listed}
+use Rattle.plain.specs.Plain.{samePair, pairOfTwo, image}
+use Rattle.plain.specs.Before.{rowBefore}
+use Rattle.plain.proofs.Plain.{samePair-tells, rows-lawful}
+use Rattle.plain.proofs.Before.{rows-ordered}
 use Rattle.graph.specs.declared.Graph.{Graph}
-use Rattle.graph.specs.WellFormed.{wellFormed}
-use Rattle.arrangements.specs.Arrangement.{at, Reordering, isReordering, isPermitted}
-use Rattle.composing.specs.Composed.{inverse}
-use Rattle.pairs.specs.Pairs.{Pair, pair, pairs, number, Between, numberOf}
-use Rattle.graph.specs.Counts.{entryAt}
-use Rattle.pairs.proofs.PairLaws.{pairs-given, pairs-has, number-one, number-next-row}
-use Rattle.graph.proofs.Formed.{formed}
-use Rattle.arrangements.proofs.Permits.{permitted, reordering-tested}
-use Rattle.composing.proofs.Composing.{inverse-before, inverse-reordering}
-use Rattle.judging.specs.Judging.{samePair, pairOfTwo, image, walkAll, literalsOf, clauseOf}
 use Rattle.graph.specs.Graph.{graphOf}
+use Rattle.graph.specs.Counts.{entryAt}
+use Rattle.graph.specs.WellFormed.{wellFormed}
+use Rattle.graph.proofs.Formed.{formed}
+use Rattle.arrangements.specs.Arrangement.{at, Reordering, isPermitted}
+use Rattle.arrangements.proofs.Permits.{permitted}
+use Rattle.composing.specs.Composed.{inverse}
+use Rattle.composing.proofs.Composing.{inverse-before, inverse-after, inverse-reordering}
+use Rattle.pairs.specs.Pairs.{Pair, pair, pairs, Between, numberOf}
+use Rattle.pairs.proofs.PairLaws.{pairs-given, pairs-has, before-smaller}
+use Rattle.judging.specs.Judging.{walkAll, literalsOf, clauseOf}
+use Rattle.judging.specs.Certificates.{UpTo, MetUpTo, in-place, as-image}
+use Rattle.judging.proofs.Literals.{up-to, metBy, met-in-words}
+use Rattle.kinds.specs.Kinds.{reached, kindOf, kindAt}
+use Rattle.kinds.proofs.KindLaws.{reached-not, kind-edge, kind-gap, edge-told, gap-told, Meets, meets-kind, kind-meets}
 use Rattle.clause.specs.Clauses.{writtenFor, writtenAlong, Wrote}
-use Rattle.kinds.specs.Kinds.{reached, kindAt}
-use Rattle.judging.proofs.Arrangements.{samePair-tells, image-between}
-use Rattle.judging.proofs.Images.{two-rising, two-falling, image-once}
-use Rattle.judging.proofs.Judgements.{walk-stands}
-use Rattle.judging.proofs.Literals.{stands-before, before-stands}
-use Rattle.kinds.proofs.KindLaws.{reached-row, reached-other, Seen, itself, edge, late-edge, gap, late-gap, unknown, seen}
 
 -- ---- the order of the pairs is that of their numbers
 
--- along a row numbers go with columns
-columns-rise : (n i j l : ℕ) → j ≤ l → number n i j ≤ number n i l
-columns-rise n i j l h = omega arith
-
-columns-told : (n i j l : ℕ) → i < j → number n i j ≤ number n i l → j ≤ l
-columns-told n i j l r h = omega arith
-
--- a pair of a later row has a larger number
-row-rises : (n i j k l : ℕ) → 1 ≤ i → i < k → k < l → l ≤ n → j ≤ n → number n i j < number n k l
-row-rises n i j zero l a b c d e = absurd (omega arith)
-row-rises n i j (suc k) l a b c d e =
-    by-same i k (λ (q : i ≡ k). past (number n i j) (rw q (columns-rise n k j n e)))
-    (λ (q : i ≢ k).
-    past (number n i j)
-    (le-trans (le-of-lt (row-rises n i j k (suc k) a (omega arith) (omega arith) (omega arith) e)) (columns-rise n k (suc k) n (omega arith))))
+-- j is k or comes before it exactly where its number is not greater
+reached-up-to : (n : ℕ) (k j : Pair) → Between 1 n k → Between 1 n j → (reached k j ≡ true) ↔ UpTo n j k
+unfolding reached
+reached-up-to n k j a b = (
+  λ h. record { between = b; at-most = by-below (numberOf n k) (numberOf n j) (λ (l : numberOf n k < numberOf n j). absurd (reached-not k j h (tells .1 (earlier l)))) (λ (l : numberOf n j ≤ numberOf n k). l) },
+  λ u. ap not (fails (rowBefore k j) (λ t. omega (arith, u .at-most, before-smaller n j (s .0) (s .1) (s .2) k (tells .0 t)))),
+)
   where
-    next : number n (suc k) (suc (suc k)) ≤ number n (suc k) l
-    next = columns-rise n (suc k) (suc (suc k)) l c
+    s : (xs : List Pair) × (ys : List Pair) × (pairs n ≡ xs ++ j ∷ ys)
+    s = mem-split j (pairs n) (pairs-has n j b)
 
-    past : (m : ℕ) → m ≤ number n k n → m < number n (suc k) l
-    past m h = le-trans (rw (number-next-row n k (omega arith) (omega arith)) (suc-le-suc-iff .1 h)) next
+    tells : (rowBefore k j ≡ true) ↔ List·Memᴰ k (s .0)
+    tells = rows-ordered n .precedes (s .0) j (s .1) (s .2) k (pairs-has n k a)
 
-module _ (n : ℕ) (last k : Pair) (a : Between 1 n last) (b : Between 1 n k) where
-  pub reached-small : reached last k ≡ true → numberOf n k ≤ numberOf n last
-  reached-small h =
-      by-same (k .row) (last .row)
-      (λ (e : k .row ≡ last .row).
-      let c = leb-true (k .column) (last .column) (reached-row (k .row) (k .column) (last .row) (last .column) e ∙ h) in
-      rw e (columns-rise n (last .row) (k .column) (last .column) c))
-      (λ (d : k .row ≢ last .row).
-      let c = ltb-true (k .row) (last .row) (reached-other (k .row) (k .column) (last .row) (last .column) d ∙ h) in
-      omega (arith, row-rises n (k .row) (k .column) (last .row) (last .column) (b .from-low) c (a .rising) (a .to-high) (b .to-high)))
-
-  pub small-reached : numberOf n k ≤ numberOf n last → reached last k ≡ true
-  small-reached h =
-      by-order (k .row) (last .row)
-      (λ (l : k .row < last .row).
-      sym (reached-other (k .row) (k .column) (last .row) (last .column) (λ e. omega arith)) ∙ lt-ltb (k .row) (last .row) l)
-      (λ (e : k .row ≡ last .row).
-      let c : number n (last .row) (k .column) ≤ number n (last .row) (last .column) = rw e at h in
-      let r : last .row < k .column = omega (arith, b .rising, e) in
-      sym (reached-row (k .row) (k .column) (last .row) (last .column) e) ∙ le-leb (k .column) (last .column) (columns-told n (last .row) (k .column) (last .column) r c))
-      (λ (l : last .row < k .row).
-      absurd (omega (arith, h, row-rises n (last .row) (last .column) (k .row) (k .column) (a .from-low) l (b .rising) (b .to-high) (a .to-high))))
+    earlier : numberOf n k < numberOf n j → List·Memᴰ k (s .0)
+    earlier l =
+        ⊎-elim (λ (m : List·Memᴰ k (s .0)). m) (λ (m : List·Memᴰ k (j ∷ [])). absurd (omega (arith, ap (numberOf n) (List·Memᴰ·eq-of-singleton m))))
+        (List·Memᴰ·append-cases (s .0) (up-to n j (s .0) (s .1) (s .2) k .1 record { between = a; at-most = omega arith }))
 
 -- ---- the pair whose image a pair is
 
--- the pair of two vertices doesn't depend on their order
-two-turned : (u v : ℕ) → pairOfTwo u v ≡ pairOfTwo v u
-two-turned u v =
-    by-order u v (λ (l : u < v). two-rising u v l ∙ sym (two-falling v u (omega arith))) (λ (e : u ≡ v). ap₂ pairOfTwo e (sym e))
-    (λ (l : v < u). two-falling u v (omega arith) ∙ sym (two-rising v u l))
+module _ (n : ℕ) where
+  injects : (p : List ℕ) → Reordering n p → Injects n n (at p)
+  injects p r = record { low = r .low; high = r .high; once = r .once }
 
--- the image of the pair of u and v is the pair of p(u) and p(v)
-image-of-two : (p : List ℕ) (u v : ℕ) → image p (pairOfTwo u v) ≡ pairOfTwo (at p u) (at p v)
-unfolding image
-image-of-two p u v =
-    by-below u v (λ (l : u < v). ap (image p) (two-rising u v l))
-    (λ (l : v ≤ u). ap (image p) (two-falling u v l) ∙ two-turned (at p v) (at p u))
-
-module _ (n : ℕ) (p : List ℕ) (r : Reordering n p) where
-  -- a pair is the image of its image under the inverse
-  source-image : (j : Pair) → Between 1 n j → image p (image (inverse n p) j) ≡ j
-  unfolding image
-  source-image j b =
-      image-of-two p (at (inverse n p) (j .row)) (at (inverse n p) (j .column))
-      ∙ ap₂ pairOfTwo (inverse-before n p r (j .row) (b .from-low) (omega arith)) (inverse-before n p r (j .column) (omega arith) (b .to-high))
-      ∙ two-rising (j .row) (j .column) (b .rising)
+  -- images under what undoes y on the places undo those under y
+  undone : (x y : List ℕ) → Reordering n y → ((i : ℕ) → 1 ≤ i → i ≤ n → at x (at y i) ≡ i) → (k : Pair) → Between 1 n k → image x (image y k) ≡ k
+  undone x y r e k b =
+      let m = pairs-has n k b in
+      let t = rows-lawful n .places k m in
+      image-two (rows-lawful n) x (at y (k .row)) (at y (k .column)) (two-kept n (at y) (injects y r) t)
+      ∙ ap₂ pairOfTwo (e (k .row) (t .low) (t .high)) (e (k .column) (t .low′) (t .high′)) ∙ rows-lawful n .spelt k m
 
 -- ---- kinds and literals
 
-module _ (g : Graph) (p : List ℕ) (high : g .order ≤ 32) (r : Reordering (g .order) p) (k : Pair) (stands : StandsIn (entryAt g) (image p) (pairs (g .order)) k) where
+module _ (g : Graph) (p : List ℕ) (high : g .order ≤ 32) (r : Reordering (g .order) p) (k : Pair) (wins : walkAll g p ≡ won k) where
+  abbrev n : ℕ
+  n = g .order
+
   abbrev source : Pair → Pair
   source j = image (inverse (g .order) p) j
 
-  abbrev up-to : List Pair
-  up-to = stands .before ++ k ∷ []
-
-  standing-between : Between 1 (g .order) k
-  standing-between = pairs-given (g .order) k (rw (stands .split) (Memᴰ·append-right (stands .before) (List·Memᴰ·head refl)))
-
-  -- the pairs up to the standing one are those that are reached
-  listed-reached : (j : Pair) → Between 1 (g .order) j → List·Memᴰ j up-to → reached k j ≡ true
-  listed-reached j b m =
-      small-reached (g .order) k j standing-between b
-      (⊎-elim
-      (λ (l : List·Memᴰ j (stands .before)). let c = stands-before (g .order) k (stands .before) (stands .after) (stands .split) j l in omega (arith, c .smaller))
-      (λ (l : List·Memᴰ j (k ∷ [])). omega (arith, ap (numberOf (g .order)) (List·Memᴰ·eq-of-singleton l)))
-      (List·Memᴰ·append-cases (stands .before) m))
-
-  reached-listed : (j : Pair) → Between 1 (g .order) j → reached k j ≡ true → List·Memᴰ j up-to
-  reached-listed j b e =
-      let small = reached-small (g .order) k j standing-between b e in
-      by-below (numberOf (g .order) j) (numberOf (g .order) k)
-      (λ (h : numberOf (g .order) j < numberOf (g .order) k).
-      Memᴰ·append-left (k ∷ []) (before-stands (g .order) k (stands .before) (stands .after) (stands .split) j record { between = b; smaller = h }))
-      (λ (h : numberOf (g .order) k ≤ numberOf (g .order) j).
-      Memᴰ·append-right (stands .before) (List·Memᴰ·head (number-one (g .order) j k b standing-between (omega arith))))
+  winning-between : Between 1 (g .order) k
+  unfolding walkOf
+  winning-between =
+      let u = won-meets samePair-tells (image p) (pairs n) (entryAt g) k wins in
+      pairs-given n k (rw (u .split) (Memᴰ·append-right (u .before) (List·Memᴰ·head refl)))
 
   module _ (j : Pair) (b : Between 1 (g .order) j) where
     source-between : Between 1 (g .order) (source j)
-    source-between = image-between (g .order) (inverse (g .order) p) (inverse-reordering (g .order) p r high) j b
+    source-between =
+        pairs-given n (source j) (image-listed (rows-lawful n) (inverse n p) (injects n (inverse n p) (inverse-reordering n p r high)) j (pairs-has n j b))
 
-    -- the pair is its own image exactly where it is its own source
-    itself-fixed : samePair (source j) j ≡ true → image p j ≡ j
-    itself-fixed e = ap (image p) (sym (samePair-tells .equal (source j) j e)) ∙ source-image (g .order) p r j b
+    image-source : image p (source j) ≡ j
+    image-source = undone n p (inverse n p) (inverse-reordering n p r high) (inverse-before n p r) j b
 
-    apart : samePair (source j) j ≡ false → source j ≢ j
-    apart d e = not-both-ways (samePair (source j) j) (ap (λ (i : Pair). samePair i j) e ∙ samePair-tells .itself j) d
+    source-image : (i : Pair) → Between 1 (g .order) i → j ≡ image p i → i ≡ source j
+    source-image i c e = sym (undone n (inverse n p) p r (inverse-after n p r) i c) ∙ ap (image (inverse n p)) (sym e)
 
-    apart-moved : samePair (source j) j ≡ false → image p j ≢ j
-    apart-moved d e =
-        apart d
-        (image-once (g .order) p r (source j) j (pairs-has (g .order) (source j) source-between) (pairs-has (g .order) j b) (source-image (g .order) p r j b ∙ sym e))
+    -- the pairs met up to the winning one, by the tests of a kind
+    abbrev Met : Type 0
+    Met = Meets (samePair (source j) j) (reached k j) (reached k (source j))
 
-    apart-source : samePair (source j) j ≡ false → image p (source j) ≢ source j
-    apart-source d e = apart d (sym e ∙ source-image (g .order) p r j b)
+    apart : Met → source j ≢ j
+    apart m e = not-both-ways (samePair (source j) j) (ap (λ (i : Pair). samePair i j) e ∙ samePair-tells .itself j) (m .moved)
 
-    -- ---- the pair
+    met-meets : MetUpTo g p k j → Met
+    met-meets (in-place u moved) =
+        record {
+          moved = fails (samePair (source j) j) (λ t. moved (ap (image p) (sym (samePair-tells .equal (source j) j t)) ∙ image-source));
+          reaches = inl (reached-up-to n k j winning-between b .1 u);
+        }
+    met-meets (as-image i u moved e) =
+        let same = source-image i (u .between) e in
+        record {
+          moved = fails (samePair (source j) j) (λ t. moved (sym e ∙ sym (samePair-tells .equal (source j) j t) ∙ sym same));
+          reaches = inr (reached-up-to n k (source j) winning-between source-between .1 (subst (λ (x : Pair). UpTo n x k) same u));
+        }
 
-    -- the pair that is met is the source
-    met-source : (m : Met (entryAt g) (image p) up-to (present j)) → m .source ≡ source j
-    met-source m =
-        image-once (g .order) p r (m .source) (source j) (in-pairs (m .source) (m .listed)) (pairs-has (g .order) (source j) source-between)
-        (m .image ∙ sym (source-image (g .order) p r j b))
-      where
-        in-pairs : (i : Pair) → List·Memᴰ i up-to → List·Memᴰ i (pairs (g .order))
-        in-pairs i l =
-            rw (stands .split)
-            (⊎-elim (λ (h : List·Memᴰ i (stands .before)). Memᴰ·append-left (k ∷ stands .after) h)
-            (λ (h : List·Memᴰ i (k ∷ [])). Memᴰ·append-right (stands .before) (List·Memᴰ·head (List·Memᴰ·eq-of-singleton h)))
-            (List·Memᴰ·append-cases (stands .before) l))
-
-    met-reached : Met (entryAt g) (image p) up-to (present j) → reached k (source j) ≡ true
-    met-reached m =
-        listed-reached (source j) source-between (subst (λ (i : Pair). List·Memᴰ i up-to) (met-source m) (m .listed))
-
-    met-moved : Met (entryAt g) (image p) up-to (present j) → samePair (source j) j ≡ true → ⊥
-    met-moved m e = m .moved (m .image ∙ sym (met-source m ∙ samePair-tells .equal (source j) j e))
-
-    -- ---- by the kind
-
-    is-among : (l : Literal Pair) → Met (entryAt g) (image p) up-to l → among samePair l (literalsOf g p) ≡ true
-    unfolding literalsOf
-    is-among l m = among-listed samePair-tells l (literalsOf g p) .1 (literals-in-words samePair-tells (entryAt g) (image p) (pairs (g .order)) k stands l .1 m)
-
-    not-among : (l : Literal Pair) → (Met (entryAt g) (image p) up-to l → ⊥) → among samePair l (literalsOf g p) ≡ false
-    unfolding literalsOf
-    not-among l never =
-        fails (among samePair l (literalsOf g p))
-        (λ e. never (literals-in-words samePair-tells (entryAt g) (image p) (pairs (g .order)) k stands l .0 (among-listed samePair-tells l (literalsOf g p) .0 e)))
-
-    -- kind 1 tells that "not" the pair is a literal, kind 2 that the pair is one
-    told : {c : ℕ} → Seen (entryAt g j) (samePair (source j) j) (reached k j) (reached k (source j)) c
-        → (among samePair (absent j) (literalsOf g p) ≡ eqb c 1) × (among samePair (present j) (literalsOf g p) ≡ eqb c 2)
-    told (itself e) = (not-among (absent j) (λ m. m .moved (itself-fixed e)), not-among (present j) (λ m. met-moved m e))
-    told (edge d e l) = (
-      is-among (absent j) record { listed = reached-listed j b l; moved = apart-moved d; edge = e },
-      not-among (present j) (λ m. omega (arith, m .gap, e)),
-    )
-    told (late-edge e l) = (
-      not-among (absent j) (λ m. not-both-ways (reached k j) (listed-reached j b (m .listed)) l),
-      not-among (present j) (λ m. omega (arith, m .gap, e)),
-    )
-    told (gap d e l) = (
-      not-among (absent j) (λ m. omega (arith, m .edge, e)),
-      is-among (present j)
-          record { source = source j; listed = reached-listed (source j) source-between l; moved = apart-source d; image = source-image (g .order) p r j b; gap = e },
-    )
-    told (late-gap e l) = (
-      not-among (absent j) (λ m. omega (arith, m .edge, e)),
-      not-among (present j) (λ m. not-both-ways (reached k (source j)) (met-reached m) l),
-    )
-    told (unknown o z) = (not-among (absent j) (λ m. o (m .edge)), not-among (present j) (λ m. z (m .gap)))
+    meets-met : Met → MetUpTo g p k j
+    meets-met m =
+        ⊎-elim (λ (h : reached k j ≡ true). in-place (reached-up-to n k j winning-between b .0 h) (λ e. apart m (sym (source-image j b (sym e)))))
+        (λ (h : reached k (source j) ≡ true).
+        as-image (source j) (reached-up-to n k (source j) winning-between source-between .0 h) (λ e. apart m (sym e ∙ image-source)) (sym image-source))
+        (m .reaches)
 
   -- the kinds by which the clause is written
   abbrev kinds : Pair → ℕ
   kinds = kindAt (g .edges) (g .unknowns) (inverse (g .order) p) k
 
+  -- kind c tells that l is a literal, where it is the kind of an entry in which l is false
+  told : (l : Literal Pair) (c : ℕ) → Between 1 (g .order) (pairIn l) → c ≢ 0 → FalseIn (entryAt g) l ↔ (kindOf (entryAt g (pairIn l)) ≡ c)
+      → among samePair l (literalsOf g p) ≡ eqb (kinds (pairIn l)) c
+  unfolding literalsBy kindAt
+  told l c b some fact =
+      same-test (among samePair l (literalsOf g p)) (eqb (kinds j) c)
+      (λ e.
+      let h = literals-in-words (entryAt g) (metBy g p k wins) l .0 (among-listed samePair-tells l (literalsOf g p) .0 e) in
+      eq-eqb (kinds j) c (sym (meets-kind (entryAt g j) _ _ _ (met-meets j b (met-in-words g p k wins j .0 (h .0)))) ∙ fact .0 (h .1)))
+      (λ e.
+      let is = eqb-true (kinds j) c e in
+      let m = kind-meets (entryAt g j) (samePair (source j) j) (reached k j) (reached k (source j)) (λ z. some (sym is ∙ z)) in
+      among-listed samePair-tells l (literalsOf g p) .1
+      (literals-in-words (entryAt g) (metBy g p k wins) l .1 (met-in-words g p k wins j .1 (meets-met j b m), fact .1 (meets-kind (entryAt g j) _ _ _ m ∙ is))))
+    where
+      j : Pair
+      j = pairIn l
+
   kinds-tell : Each (λ j. (among samePair (absent j) (literalsOf g p) ≡ eqb (kinds j) 1) × (among samePair (present j) (literalsOf g p) ≡ eqb (kinds j) 2)) (pairs (g .order))
-  unfolding kindAt
-  kinds-tell j m = told j (pairs-given (g .order) j m) (seen (entryAt g j) (samePair (source j) j) (reached k j) (reached k (source j)))
+  kinds-tell j m =
+      let b = pairs-given n j m in
+      let a : ℕ = entryAt g j in (
+        told (absent j) 1 b (λ z. omega arith) (λ e. sym (kind-edge a e), edge-told a),
+        told (present j) 2 b (λ z. omega arith) (λ e. sym (kind-gap a e), gap-told a),
+      )
 
 -- a number is written in front of the rest
 numbered-front : (a p : Bool) (m : ℕ) (rest : List ℤ) → numbered a p m [] ++ rest ≡ numbered a p m rest
@@ -241,22 +179,25 @@ along-clause t lits i (j ∷ ks) h =
     rw (here .0, here .1, along-clause t lits (suc i) ks (each-rest (λ j. (among samePair (absent j) lits ≡ eqb (t j) 1) × (among samePair (present j) lits ≡ eqb (t j) 2)) h))
     (numbered-front (eqb (t j) 1) (eqb (t j) 2) (suc i) (clauseAfter samePair lits (suc i) ks))
 
--- the pass writes the clause of an arrangement with a standing pair
-pub kinds-clause : (g : Graph) (p : List ℕ) → g .order ≤ 32 → Reordering (g .order) p → (k : Pair) → StandsIn (entryAt g) (image p) (pairs (g .order)) k
+-- the pass writes the clause of an arrangement that wins
+kinds-clause : (g : Graph) (p : List ℕ) → g .order ≤ 32 → Reordering (g .order) p → (k : Pair) → walkAll g p ≡ won k
     → writtenAlong (kindAt (g .edges) (g .unknowns) (inverse (g .order) p) k) 0 (pairs (g .order)) ≡ clauseOf g p
-unfolding clauseOf clause
-kinds-clause g p high r k stands =
-    along-clause (kindAt (g .edges) (g .unknowns) (inverse (g .order) p) k) (literalsOf g p) 0 (pairs (g .order)) (kinds-tell g p high r k stands)
+unfolding writtenBy clause
+kinds-clause g p high r k wins =
+    along-clause (kindAt (g .edges) (g .unknowns) (inverse (g .order) p) k) (literalsOf g p) 0 (pairs (g .order)) (kinds-tell g p high r k wins)
 
 -- ---- as the code meets it
 
-module _ (n : ℕ) (e u : List ℕ) (starts : ℕ) (p : List ℕ) (row column : ℕ) (well : wellFormed (graphOf n e u starts) ≡ true)
-    (walks : walkAll (graphOf n e u starts) p ≡ won (pair row column)) where
-  at-pair : StandsIn (entryAt (graphOf n e u starts)) (image p) (pairs n) (pair row column)
-  at-pair = walk-stands (graphOf n e u starts) p (pair row column) .0 walks
+module _ (n : ℕ) (e u : List ℕ) (starts : ℕ) (p : List ℕ) (row column : ℕ) (well : wellFormed (graphOf n e u starts) ≡ true) (fits : isPermitted n starts p ≡ true)
+    (wins : walkAll (graphOf n e u starts) p ≡ won (pair row column)) where
+  pub order-high : n ≤ 32
+  order-high = formed (graphOf n e u starts) well .order-high
+
+  pub reorders : Reordering n p
+  reorders = permitted n starts p order-high fits .reordering
 
   at-between : Between 1 n (pair row column)
-  at-between = pairs-given n (pair row column) (rw (at-pair .split) (Memᴰ·append-right (at-pair .before) (List·Memᴰ·head refl)))
+  at-between = winning-between (graphOf n e u starts) p order-high reorders (pair row column) wins
 
   pub row-low : 1 ≤ row
   row-low = at-between .from-low
@@ -267,22 +208,15 @@ module _ (n : ℕ) (e u : List ℕ) (starts : ℕ) (p : List ℕ) (row column : 
   pub column-high : column ≤ n
   column-high = at-between .to-high
 
-  module _ (fits : isPermitted n starts p ≡ true) where
-    pub reorders : Reordering n p
-    reorders = permitted n starts p (formed (graphOf n e u starts) well .order-high) fits .reordering
+  module _ (q : List ℕ) (inverts : q ≡ inverse n p) (old new : List ℤ) (r : ℕ)
+      (done : Wrote (writtenAlong (kindAt e u q (pair row column)) 0 (pairs n)) old 0 new r) where
+    whole : writtenAlong (kindAt e u q (pair row column)) 0 (pairs n) ≡ clauseOf (graphOf n e u starts) p
+    whole = rw inverts (kinds-clause (graphOf n e u starts) p order-high reorders (pair row column) wins)
 
-    pub path-tested : isReordering n p ≡ true
-    path-tested = reordering-tested n p reorders
+    pub clause-counted : r ≡ length (clauseOf (graphOf n e u starts) p)
+    clause-counted = omega (arith, done .counted, ap length whole)
 
-    module _ (q : List ℕ) (inverts : q ≡ inverse n p) (old new : List ℤ) (r : ℕ)
-        (done : Wrote (writtenAlong (kindAt e u q (pair row column)) 0 (pairs n)) old 0 new r) where
-      whole : writtenAlong (kindAt e u q (pair row column)) 0 (pairs n) ≡ clauseOf (graphOf n e u starts) p
-      whole = rw inverts (kinds-clause (graphOf n e u starts) p (formed (graphOf n e u starts) well .order-high) reorders (pair row column) at-pair)
-
-      pub clause-counted : r ≡ length (clauseOf (graphOf n e u starts) p)
-      clause-counted = omega (arith, done .counted, ap length whole)
-
-      pub clause-written : new ≡ clauseOf (graphOf n e u starts) p ++ drop (length (clauseOf (graphOf n e u starts) p)) old
-      clause-written =
-          let z : 0 + length (clauseOf (graphOf n e u starts) p) ≡ length (clauseOf (graphOf n e u starts) p) = omega arith in
-          rw (whole, z) at (done .written)
+    pub clause-written : new ≡ clauseOf (graphOf n e u starts) p ++ drop (length (clauseOf (graphOf n e u starts) p)) old
+    clause-written =
+        let z : 0 + length (clauseOf (graphOf n e u starts) p) ≡ length (clauseOf (graphOf n e u starts) p) = omega arith in
+        rw (whole, z) at (done .written)

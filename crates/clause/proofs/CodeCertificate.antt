@@ -1,4 +1,4 @@
--- What the code does for a certificate: the mask of a path, its completion, and the pair at which it stands.
+-- What the code does for a certificate: the mask of a path, its completion, its places, and the pair at which it wins.
 use Prim.Native.Nat.{ℕ, suc, _+_, _-_, _^_, _≤_, _<_}
 use native.Mathlib.Nat.{lt-of-lt-of-le}
 use native.Mathlib.Omega.{arith}
@@ -9,15 +9,22 @@ use lib.Pow.{pow-mono}
 use lib.Seq.{take-suc, take-take, getD-take}
 use borrow.Author.Tests.{eq-eqb, ne-eqb}
 use Rattle.laws.specs.Test.{pick}
+use Rattle.walk.specs.Walk.{won}
 use Rattle.beginnings.specs.Beginning.{Beginning}
 use Rattle.beginnings.proofs.Follows.{Follows, follows-start, beginning-follows}
 use Rattle.rows.specs.Rows.{blockOf}
-use Rattle.arrangements.specs.Arrangement.{at}
+use Rattle.graph.specs.declared.Graph.{Graph}
+use Rattle.graph.specs.WellFormed.{WellFormed}
+use Rattle.arrangements.specs.Arrangement.{at, Permitted}
+use Rattle.composing.specs.Composed.{inverse}
+use Rattle.composing.proofs.Composing.{inverse-after}
 use Rattle.pairs.specs.Pairs.{Pair, pair, alongRow, fromRow, pairs}
 use Rattle.pairs.proofs.PairLaws.{fromRow-split}
-use Rattle.exploring.specs.Masks.{usedMask}
-use Rattle.turns.specs.Turns.{firstPair, Within}
-use Rattle.exploring.proofs.MaskLaws.{used-more, used-below}
+use Rattle.stops.specs.Used.{usedMask}
+use Rattle.judging.specs.Judging.{walkAll}
+use Rattle.turns.specs.Turns.{turnAt, firstPair, Places}
+use Rattle.turns.proofs.Walks.{winning-first}
+use Rattle.stops.proofs.UsedLaws.{used-more, used-below}
 
 -- ---- the mask of a path
 
@@ -66,7 +73,7 @@ unfoldable pub fromPair : ℕ → ℕ → ℕ → List Pair
 fromPair n i j = alongRow i j (n + 1 - j) ++ fromRow (i + 1) (n - (i + 1))
 
 -- all of them, from (1, 2)
-pub from-first : (n : ℕ) → 1 ≤ n → fromPair n 1 2 ≡ pairs n
+from-first : (n : ℕ) → 1 ≤ n → fromPair n 1 2 ≡ pairs n
 unfolding fromPair pairs
 from-first n l =
     let a : n + 1 - 2 ≡ n - 1 = omega arith in
@@ -74,14 +81,14 @@ from-first n l =
     rw (a, c) (sym (fromRow-split 1 (n - 1)))
 
 -- a pair, then the next one of its row or the first of the next row
-pub from-here : (n i j : ℕ) → j ≤ n → fromPair n i j ≡ pair i j ∷ fromPair n i (j + 1)
+from-here : (n i j : ℕ) → j ≤ n → fromPair n i j ≡ pair i j ∷ fromPair n i (j + 1)
 unfolding fromPair alongRow
 from-here n i j h =
     let a : n + 1 - j ≡ suc (n + 1 - (j + 1)) = omega arith in
     let e : j + 1 ≡ suc j = omega arith in
     rw (a, e)
 
-pub from-down : (n i : ℕ) → i < n → fromPair n i (n + 1) ≡ fromPair n (i + 1) (i + 1 + 1)
+from-down : (n i : ℕ) → i < n → fromPair n i (n + 1) ≡ fromPair n (i + 1) (i + 1 + 1)
 unfolding fromPair alongRow
 from-down n i h =
     let a : n + 1 - (n + 1) ≡ 0 = omega arith in
@@ -90,7 +97,7 @@ from-down n i h =
     let f : n - suc (i + 1) ≡ n - (i + 1) - 1 = omega arith in
     rw (a, c, d, f) (fromRow-split (i + 1) (n - (i + 1)))
 
-pub from-last : (n j : ℕ) → n < j → fromPair n n j ≡ []
+from-last : (n j : ℕ) → n < j → fromPair n n j ≡ []
 unfolding fromPair alongRow fromRow
 from-last n j h =
     let a : n + 1 - j ≡ 0 = omega arith in
@@ -98,12 +105,6 @@ from-last n j h =
     rw (a, c)
 
 -- ---- the first pair that does not go on
-
-pub column-low : (n i j : ℕ) (p : List ℕ) → Within n p → i < n → i < j → j ≤ n + (i + 1 - n) → 1 ≤ at p j
-column-low n i j p w h k l = w .low j (omega arith) (omega arith)
-
-pub column-high : (n i j : ℕ) (p : List ℕ) → Within n p → i < n → i < j → j ≤ n + (i + 1 - n) → at p j ≤ 32
-column-high n i j p w h k l = w .high j (omega arith) (omega arith)
 
 module _ (t : Pair → ℕ) (n i j : ℕ) (whole : Pair) (left : firstPair t (fromPair n i j) ≡ whole) where
   onward : (c : ℕ) → j ≤ n → c ≡ t (pair i j) → c ≡ 0 → firstPair t (fromPair n i (j + 1)) ≡ whole
@@ -128,3 +129,20 @@ module _ (t : Pair → ℕ) (n i j : ℕ) (whole : Pair) (left : firstPair t (fr
 
 pub first-starts : (t : Pair → ℕ) (n : ℕ) → 1 ≤ n → firstPair t (fromPair n 1 2) ≡ firstPair t (pairs n)
 first-starts t n l = ap (firstPair t) (from-first n l)
+
+-- ---- where a certificate wins
+
+-- the inverse has the places of its vertices
+pub inverse-places : (n starts : ℕ) (p q : List ℕ) → n ≤ 32 → Permitted n starts p → q ≡ inverse n p → Places n p q
+inverse-places n starts p q small a e =
+    let r = a .reordering in
+    record {
+      arranged = record { within = record { low = r .low; high = λ i l h. omega (arith, r .high i l h) }; below = r .high; once = r .once };
+      undone = λ i l h. rw e (inverse-after n p r i l h);
+    }
+
+-- so the pair that is found is that at which the walk is won
+pub wins-there : (g : Graph) → WellFormed g → (p q : List ℕ) → Permitted (g .order) (g .starts) p → q ≡ inverse (g .order) p → (k : Pair) → walkAll g p ≡ won k → (row column : ℕ)
+    → pair row column ≡ firstPair (turnAt (g .edges) (g .unknowns) p q) (pairs (g .order)) → walkAll g p ≡ won (pair row column)
+wins-there g w p q a e k wins row column f =
+    wins ∙ ap won (sym (f ∙ winning-first g w p q (inverse-places (g .order) (g .starts) p q (w .order-high) a e) k wins))

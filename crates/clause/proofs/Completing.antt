@@ -20,8 +20,10 @@ use Rattle.words.specs.Placed.{placed}
 use Rattle.rows.specs.Rows.{blockOf}
 use Rattle.words.proofs.Placed.{placed-at}
 use Rattle.judging.specs.Judging.{padded}
-use Rattle.exploring.specs.Masks.{usedMask, blockMask}
-use Rattle.exploring.proofs.MaskLaws.{used-down, used-below, mask-children, mask-fits}
+use Rattle.stops.specs.Used.{usedMask}
+use Rattle.exploring.specs.Masks.{blockMask}
+use Rattle.stops.proofs.UsedLaws.{used-down, used-below}
+use Rattle.exploring.proofs.MaskLaws.{mask-children, mask-fits}
 
 -- the path is completed up to d places
 pub record Completing (n starts depth : ℕ) (blocks path₀ path : List ℕ) (used d : ℕ) : Type 0 where

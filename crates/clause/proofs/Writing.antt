@@ -20,7 +20,7 @@ use Rattle.pairs.proofs.PairLaws.{pairCount-mono, number-first, number-next-row
 use Rattle.clause.specs.Clauses.{writtenFor, writtenAlong, Wrote}
 use Rattle.kinds.specs.Kinds.{Ahead}
 use Rattle.exploring.proofs.MaskLaws.{lowest-least, shifted}
-use Rattle.turns.proofs.CodeTurns.{row-and-rest}
+use Rattle.row_walks.proofs.CodeRows.{row-and-rest}
 
 -- ---- texts in the buffer
 
@@ -144,10 +144,6 @@ number-skips : (n i j k m : ℕ) → i < j → m ≡ number n i j → m + k ≡ 
 number-skips n i j k m l e = omega arith
 
 module _ (t : Pair → ℕ) (n i start : ℕ) (old new : List ℤ) (left j m count : ℕ) (w : Along t n i start old new left j m count) where
-  -- the buffer keeps its length
-  pub along-long : length new ≡ length old
-  along-long = w .long
-
   -- where no column is left, the row is written
   module _ (over : left ≡ 0) where
     none-left : (x : ℕ) → x < n + 1 - j → t (pair i (j + x)) ≡ 0
@@ -295,17 +291,11 @@ next-start : (n i x y m : ℕ) → y ≡ x + (n - i) → m ≡ n + 1 - (i + 1) �
 next-start n i x y m a b l = omega arith
 
 module _ (t : Pair → ℕ) (n : ℕ) (old new : List ℤ) (i count : ℕ) (w : Rows t n old new i count) where
-  pub rows-long : length new ≡ length old
-  rows-long = w .long
-
   pub rows-done : n ≤ i → Wrote (writtenAlong t 0 (pairs n)) old 0 new count
   unfolding fromRow writtenAlong
   rows-done h =
       let z : n - i ≡ 0 = omega arith in
       rw (sym (append-nil (w .done)) ∙ (rw z at (w .rest))) at (w .wrote)
-
-  pub few-before : count < number n i (i + 1)
-  few-before = w .few
 
   pub room-for : pairCount n ≤ length new
   room-for = rw (w .long) (w .room)

@@ -1,4 +1,4 @@
-// The first certificate: the won beginning completed, and its standing pair.
+// The first certificate: the won beginning completed, and its winning pair.
 ghost use mathlib.Core.Path.{_≡_};
 ghost use Prim.Native.Nat.{_-_, _≤_};
 ghost use lib.ListN.{length, take, drop, replicate};
@@ -8,8 +8,9 @@ ghost use Rattle.words.specs.Placed.{placed};
 ghost use Rattle.rows.specs.Rows.{blockOf};
 ghost use Rattle.pairs.specs.Pairs.{pair, pairs};
 ghost use Rattle.judging.specs.Judging.{padded};
-ghost use Rattle.exploring.specs.Masks.{usedMask, blockMask};
-ghost use Rattle.turns.specs.Turns.{turnAt, firstPair, Within};
+ghost use Rattle.stops.specs.Used.{usedMask};
+ghost use Rattle.exploring.specs.Masks.{blockMask};
+ghost use Rattle.turns.specs.Turns.{turnAt, firstPair, Places};
 use turns::path::stored;
 use turns::path::weight_of;
 use turns::walked::pair_turn;
@@ -57,20 +58,21 @@ pub struct Spot {
     pub column: u32,
 }
 
-// The first pair that does not go on, or (0, 0).
-pub fn standing<'a>(
+// The winning pair of a path whose walk is won: the first that does not go on. Where each goes on, (0, 0).
+pub fn winning<'a>(
     edges: &'a [u32; 32],
     unknowns: &'a [u32; 32],
     path: &'a [u8; 32],
+    places: &'a [u8; 32],
     n: u32,
 ) -> Spot
-    requires { ⌜ (1 ≤ n) × (n ≤ 32) × Within n (now path) ⌝ }
-    ensures { λ r. ⌜ pair (r .row) (r .column) ≡ firstPair (turnAt (now (edges .entry)) (now (unknowns .entry)) (now (path .entry))) (pairs n) ⌝ }
+    requires { ⌜ (1 ≤ n) × (n ≤ 32) × Places n (now path) (now places) ⌝ }
+    ensures { λ r. ⌜ pair (r .row) (r .column) ≡ firstPair (turnAt (now (edges .entry)) (now (unknowns .entry)) (now (path .entry)) (now (places .entry))) (pairs n) ⌝ }
 {
     let mut i = 1;
     let mut j = 2;
     while i < n {
-        if pair_turn(edges, unknowns, path, i, j) == 0 {
+        if pair_turn(edges, unknowns, path, places, n, i, j) == 0 {
             if j < n {
                 j += 1;
             } else {

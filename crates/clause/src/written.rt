@@ -5,7 +5,7 @@ ghost use mathlib.Core.List.{_++_};
 ghost use Prim.Native.Nat.{_+_, _-_, _^_, _≤_, _<_};
 ghost use lib.ListN.{length, drop};
 ghost use Rattle.walk.specs.Walk.{won};
-ghost use Rattle.arrangements.specs.Arrangement.{at, Reordering, isReordering, isPermitted};
+ghost use Rattle.arrangements.specs.Arrangement.{Reordering, isReordering, isPermitted};
 ghost use Rattle.composing.specs.Composed.{inverse};
 ghost use Rattle.graph.specs.WellFormed.{wellFormed};
 ghost use Rattle.pairs.specs.Pairs.{pair, pairs, pairCount, number, alongRow};
@@ -13,12 +13,8 @@ ghost use Rattle.judging.specs.Judging.{walkAll, clauseOf};
 ghost use Rattle.graph.specs.Graph.{graphOf};
 ghost use Rattle.clause.specs.Clauses.{writtenFor, writtenAlong, Wrote};
 ghost use Rattle.kinds.specs.Kinds.{kindAt, Ahead};
-use arrangements::places::vertex_of;
-use composing::composed::inverse_of;
 use kinds::columns::columns_of;
 use kinds::columns::first_places;
-use kinds::columns::firsts;
-use kinds::columns::sources;
 use kinds::kind::kind_at;
 use pairs::number_of;
 use words::lowest;
@@ -53,7 +49,7 @@ fn write_row<'a, 'b>(
     count: usize,
     literals: &'b mut [i32],
 ) -> usize
-    requires { ⌜ (n ≤ 32) × (isReordering n (now places) ≡ true) × (1 ≤ i) × (i < n) × (count < number n i (i + 1)) × (pairCount n ≤ length (now literals)) × (columns < 2 ^ (n + 1 - (i + 1))) × Ahead (kindAt (now edges) (now unknowns) (now places) (pair row column)) n i (i + 1) columns ⌝ }
+    requires { ⌜ (n ≤ 32) × (isReordering n (now places) ≡ true) × (1 ≤ row) × (1 ≤ column) × (1 ≤ i) × (i < n) × (count < number n i (i + 1)) × (pairCount n ≤ length (now literals)) × (columns < 2 ^ (n + 1 - (i + 1))) × Ahead (kindAt (now edges) (now unknowns) (now places) (pair row column)) n i (i + 1) columns ⌝ }
     ensures { λ r. ⌜ Wrote (writtenAlong (kindAt (now (edges .entry)) (now (unknowns .entry)) (now (places .entry)) (pair row column)) (number n i (i + 1) - 1) (alongRow i (i + 1) (n + 1 - (i + 1)))) (now (literals .entry)) count (now (literals .exit)) r ⌝ }
 {
     let mut left = columns;
@@ -93,10 +89,7 @@ fn write_pairs<'a, 'b>(
     let mut i = 1;
     let mut count = 0;
     while i < n {
-        let u = vertex_of(n, places, i);
-        let first = firsts(i, row, column);
-        let source = sources(places, n, row, column, u, before, at, up);
-        let columns = columns_of(edges, unknowns, places, n, row, column, i, first, source);
+        let columns = columns_of(unknowns, places, n, row, column, before, at, up, i);
         count = write_row(
             edges,
             unknowns,
@@ -114,20 +107,21 @@ fn write_pairs<'a, 'b>(
     count
 }
 
-// Writes the clause of the arrangement at the start of the buffer, and answers how many literals it has.
+// Writes the clause of the arrangement, which wins at (row, column), at the start of the buffer, and answers how many
+// literals it has.
 pub fn write_clause<'a, 'b>(
     edges: &'a [u32; 32],
     unknowns: &'a [u32; 32],
     path: &'a [u8; 32],
+    places: &'a [u8; 32],
     n: u32,
     starts: u32,
     row: u32,
     column: u32,
     literals: &'b mut [i32],
 ) -> usize
-    requires { ⌜ (wellFormed (graphOf n (now edges) (now unknowns) starts) ≡ true) × (isPermitted n starts (now path) ≡ true) × (walkAll (graphOf n (now edges) (now unknowns) starts) (now path) ≡ won (pair row column)) × (pairCount n ≤ length (now literals)) ⌝ }
+    requires { ⌜ (wellFormed (graphOf n (now edges) (now unknowns) starts) ≡ true) × (isPermitted n starts (now path) ≡ true) × (now places ≡ inverse n (now path)) × (walkAll (graphOf n (now edges) (now unknowns) starts) (now path) ≡ won (pair row column)) × (pairCount n ≤ length (now literals)) ⌝ }
     ensures { λ r. ⌜ (r ≡ length (clauseOf (graphOf n (now (edges .entry)) (now (unknowns .entry)) starts) (now (path .entry)))) × (now (literals .exit) ≡ clauseOf (graphOf n (now (edges .entry)) (now (unknowns .entry)) starts) (now (path .entry)) ++ drop (length (clauseOf (graphOf n (now (edges .entry)) (now (unknowns .entry)) starts) (now (path .entry)))) (now (literals .entry))) ⌝ }
 {
-    let places = inverse_of(n, path);
-    write_pairs(edges, unknowns, path, &places, n, row, column, literals)
+    write_pairs(edges, unknowns, path, places, n, row, column, literals)
 }

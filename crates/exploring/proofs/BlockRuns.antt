@@ -22,7 +22,7 @@ use Rattle.arrangements.proofs.Blocks.{one-block}
 use Rattle.arrangements.specs.Arrangement.{NoStart}
 use Rattle.turns.specs.Turns.{allMarks}
 use Rattle.exploring.specs.Masks.{blockMask, Fresh}
-use Rattle.turns.proofs.AlikeRows.{all-bits}
+use Rattle.turns.proofs.Ones.{all-bits}
 use Rattle.exploring.proofs.MaskLaws.{lowest-least, shifted, block-bit, block-below}
 
 -- ---- k + 1 ones

@@ -1,8 +1,6 @@
 pub mod CodeMasks
 pub mod MaskLaws
 pub mod BlockRuns
-pub mod CodeStops
-pub mod StopLaws
 pub mod Searching
 pub mod Trying
 pub mod CodeSearch

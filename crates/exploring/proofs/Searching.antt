@@ -18,10 +18,14 @@ use Rattle.rows.specs.Rows.{blockOf}
 use Rattle.graph.specs.WellFormed.{WellFormed}
 use Rattle.arrangements.specs.Arrangement.{at}
 use Rattle.words.proofs.Placed.{placed-at}
+use Rattle.schemes.specs.Judging
 use Rattle.judging.specs.Judging.{judged, found}
-use Rattle.exploring.specs.Masks.{usedMask, blockMask}
-use Rattle.exploring.specs.Stops.{StopsFor}
-use Rattle.exploring.proofs.MaskLaws.{used-more, used-up, mask-start, block-fits}
+use Rattle.stops.specs.Used.{usedMask}
+use Rattle.exploring.specs.Masks.{blockMask}
+use Rattle.stops.specs.Stops.{Stopping}
+use Rattle.stops.proofs.StoppingLaws.{stopping-begin, stopping-shorter}
+use Rattle.exploring.proofs.MaskLaws.{mask-start, block-fits}
+use Rattle.stops.proofs.UsedLaws.{used-more, used-up}
 
 -- the untried vertices at each depth above d, the deepest first
 unfoldable pub untriedAbove : ℕ → List ℕ → ℕ → List (List ℕ)
@@ -40,7 +44,7 @@ above-stored n masks i m (suc d) h =
     ap₂ (λ (x : ℕ) (r : List (List ℕ)). members x n ∷ r) (getD-set-other masks i d m 0 (omega arith)) (above-stored n masks i m d (omega arith))
 
 -- left are the untried vertices at this depth
-pub record Searching (g : Graph) (budget : ℕ) (blocks path₀ path untried stops : List ℕ) (left used depth steps : ℕ) : Type 0 where
+pub record Searching (g : Graph) (budget : ℕ) (blocks path₀ path untried stops places : List ℕ) (left used depth steps : ℕ) : Type 0 where
   pub formed : WellFormed g
   pub blocks-are : blocks ≡ placed (blockMask (blockOf (g .starts)) (g .order)) (g .order)
   pub path-long : length path ≡ 32
@@ -52,8 +56,9 @@ pub record Searching (g : Graph) (budget : ℕ) (blocks path₀ path untried sto
   pub in-use : used ≡ usedMask (take depth path)
   pub follows : Follows (g .order) (blockOf (g .starts)) [] (take depth path)
   pub opened : (d : ℕ) → 1 ≤ d → d ≤ depth → judged g (take d path) ≡ Search.«open»
-  pub none-first : getD stops 0 0 ≡ 0
-  pub stopping : 1 ≤ depth → StopsFor (g .edges) (g .unknowns) (at path 1) (g .order) stops
+  pub stopping : Stopping (g .edges) (g .unknowns) (g .order) depth path stops
+  pub places-long : length places ≡ 32
+  pub placed-at : (i : ℕ) → 1 ≤ i → i ≤ depth → at places (at path i) ≡ i
   pub left-below : left < 2 ^ g .order
   pub masks : (d : ℕ) → d < depth → getD untried d 0 < 2 ^ g .order
   pub left-untaken : (v : ℕ) → List·Memᴰ v (members left (g .order)) → Child (g .order) (blockOf (g .starts)) (take depth path) v
@@ -67,7 +72,7 @@ module _ (g : Graph) (budget : ℕ) (blocks path₀ : List ℕ) where
   abbrev block : ℕ → ℕ
   block = blockOf (g .starts)
 
-  abbrev State : List ℕ → List ℕ → List ℕ → ℕ → ℕ → ℕ → ℕ → Type 0
+  abbrev State : List ℕ → List ℕ → List ℕ → List ℕ → ℕ → ℕ → ℕ → ℕ → Type 0
   State = Searching g budget blocks path₀
 
   abbrev still : List ℕ → List (List ℕ) → List (List ℕ)
@@ -79,8 +84,8 @@ module _ (g : Graph) (budget : ℕ) (blocks path₀ : List ℕ) where
 
   -- ---- the search begins
 
-  pub begins : WellFormed g → blocks ≡ placed (blockMask block n) n → length path₀ ≡ 32 → State path₀ (replicate 32 0) (replicate 32 0) (getD blocks 0 0) 0 0 0
-  unfolding untriedAbove usedMask found
+  pub begins : WellFormed g → blocks ≡ placed (blockMask block n) n → length path₀ ≡ 32 → State path₀ (replicate 32 0) (replicate 32 0) (replicate 32 0) (getD blocks 0 0) 0 0 0
+  unfolding untriedAbove usedMask Judging.found
   begins w e l =
       record {
         formed = w;
@@ -94,8 +99,9 @@ module _ (g : Graph) (budget : ℕ) (blocks path₀ : List ℕ) where
         in-use = refl;
         follows = tt;
         opened = λ d a b. absurd (omega arith);
-        none-first = refl;
-        stopping = λ h. absurd (omega arith);
+        stopping = stopping-begin (g .edges) (g .unknowns) n path₀ (replicate 32 0) refl;
+        places-long = refl;
+        placed-at = λ i a b. absurd (omega arith);
         left-below = block-fits block n 1 (getD blocks 0 0) first-block;
         masks = λ d h. absurd (omega arith);
         left-untaken = λ v m. child-of-mem n block [] v (subst (λ (x : List ℕ). List·Memᴰ v x) (mask-start n block (getD blocks 0 0) first-block) m);
@@ -106,7 +112,7 @@ module _ (g : Graph) (budget : ℕ) (blocks path₀ : List ℕ) where
       first-block : getD blocks 0 0 ≡ blockMask block n 1
       first-block = block-at e 0 (w .order-low)
 
-  module _ (path untried stops : List ℕ) (left used depth steps : ℕ) (s : State path untried stops left used depth steps) where
+  module _ (path untried stops places : List ℕ) (left used depth steps : ℕ) (s : State path untried stops places left used depth steps) where
     pub depth-fits : depth < length path
     depth-fits = omega (arith, s .path-long, s .shallow, s .formed .order-high)
 
@@ -145,7 +151,7 @@ module _ (g : Graph) (budget : ℕ) (blocks path₀ : List ℕ) where
           sym (loop-climb n block (judged g) (take depth path) [] steps budget ∙ loop-over n block (judged g) (shorter (take depth path)) steps budget)
           ∙ ap (λ (d : ℕ). tryAll (judged g) (still (take depth path) ([] ∷ untriedAbove n untried d)) steps budget) (sym e) ∙ by-deepest [] none-left
 
-      pub climbed : (d w : ℕ) → depth ≡ suc d → w ≡ 2 ^ (getD path d 0 - 1) → State path untried stops (getD untried d 0) (used - w) d steps
+      pub climbed : (d w : ℕ) → depth ≡ suc d → w ≡ 2 ^ (getD path d 0 - 1) → State path untried stops places (getD untried d 0) (used - w) d steps
       climbed d w e q =
           record {
             formed = s .formed;
@@ -161,8 +167,9 @@ module _ (g : Graph) (budget : ℕ) (blocks path₀ : List ℕ) where
                 (ap (λ (x : ℕ). used - x) q);
             follows = follows-start n block [] (take d path) (getD path d 0 ∷ []) (subst (Follows n block []) last (s .follows));
             opened = λ m a b. s .opened m a (omega arith);
-            none-first = s .none-first;
-            stopping = λ a. s .stopping (omega arith);
+            stopping = stopping-shorter (g .edges) (g .unknowns) n d depth path stops (omega arith) (s .stopping);
+            places-long = s .places-long;
+            placed-at = λ i a b. s .placed-at i a (omega arith);
             left-below = s .masks d (omega arith);
             masks = λ m a. s .masks m (omega arith);
             left-untaken = s .untaken d (omega arith);

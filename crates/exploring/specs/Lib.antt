@@ -1,3 +1,2 @@
 pub mod Masks
-pub mod Stops
 pub mod Found

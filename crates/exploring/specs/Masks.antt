@@ -1,19 +1,11 @@
--- The masks that a search keeps: the vertices in use, and the vertices of a block.
-use Prim.Native.Nat.{ℕ, _+_, _-_, _^_, _≤_}
+-- The vertices of a block as a mask.
+use Prim.Native.Nat.{ℕ, _+_, _≤_}
 use mathlib.Core.Path.{_≡_}
 use mathlib.Core.Logic.{_≢_}
-use mathlib.Core.List.{List, [], _∷_}
 use lib.Dec.{eqb}
 use Rattle.laws.specs.Test.{pick}
 use Rattle.laws.specs.UpTo.{wordUpTo}
 use Rattle.rows.specs.Rows.{blockOf}
-
--- the vertices of b as a mask
-unfoldable pub usedMask : List ℕ → ℕ
-usedMask [] = 0
-usedMask (v ∷ b) =
-    let rest = usedMask b in
-    2 ^ (v - 1) + rest
 
 -- 1 where v lies in the block of place i
 unfoldable pub sameBlock : (ℕ → ℕ) → ℕ → ℕ → ℕ

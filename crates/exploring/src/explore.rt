@@ -10,11 +10,12 @@ ghost use Rattle.exploring.specs.Masks.{blockMask};
 ghost use Rattle.judging.specs.Judging.{found};
 ghost use Rattle.graph.specs.Graph.{graphOf};
 ghost use Rattle.exploring.specs.Found.{foundBy};
-use crate::stops::set_stops;
+use arrangements::places::vertex_at;
+use stops::stops::set_stops;
+use stops::tried::tried;
 use turns::path::stored;
 use turns::path::weight_of;
-use turns::walked::edges_of;
-use turns::walked::rows_walk;
+use turns::walked::row_of;
 use words::lowest;
 use words::power;
 use words::without;
@@ -47,9 +48,11 @@ pub fn explore<'a, 'b>(
     requires { ⌜ (length (now path) ≡ 32) × (wellFormed (graphOf n (now edges) (now unknowns) starts) ≡ true) × (now blocks ≡ placed (blockMask (blockOf starts) n) n) ⌝ }
     ensures { λ r. ⌜ (foundBy r (now (path .exit)) ≡ found (graphOf n (now (edges .entry)) (now (unknowns .entry)) starts) budget) × (drop n (now (path .exit)) ≡ drop n (now (path .entry))) × (r .depth ≤ n) ⌝ }
 {
-    let ones = edges_of(edges, 1);
+    let ones = row_of(edges, 1);
+    let doubts = row_of(unknowns, 1);
     let mut untried = [0u32; 32];
     let mut stops = [0u32; 32];
+    let mut places = [0u8; 32];
     let mut left = blocks[0];
     let mut used = 0u32;
     let mut depth = 0usize;
@@ -70,20 +73,22 @@ pub fn explore<'a, 'b>(
             let weight = power(v);
             left -= weight;
             path[depth] = stored(v);
+            places[v as usize] = stored(depth as u32);
             steps += 1;
             let k = depth as u32 + 1;
-            if (stops[depth] >> v) % 2 == 1 {
-                if (ones >> depth) % 2 == 1 {
-                    return ended(1, steps, k);
-                }
-            } else if k < n {
-                set_stops(edges, unknowns, n, depth, v, &mut stops);
-                untried[depth] = left;
+            let stop = stops[depth];
+            let code = tried(
+                edges, unknowns, path, &places, n, ones, doubts, stop, used, v, k,
+            );
+            if code == 2 {
+                return ended(1, steps, k);
+            }
+            if code == 0 {
                 used += weight;
+                set_stops(edges, unknowns, n, depth, used, vertex_at(path, 1), &mut stops);
+                untried[depth] = left;
                 depth += 1;
                 left = without(blocks[depth], used);
-            } else if rows_walk(edges, unknowns, path, n) == 2 {
-                return ended(1, steps, k);
             }
         }
     }

@@ -1,20 +1,21 @@
 -- Arrangements of 32 numbers and beginnings of length n are the same thing, with zeros after place n or without.
 use Prim.Native.Nat.{ℕ, zero, suc, _+_, _-_, _≤_, _<_}
 use native.Mathlib.Omega.{arith}
-use mathlib.Core.Path.{_≡_, refl, sym, ap, ap₂, subst, _∙_}
-use mathlib.Core.Logic.{inl, inr, _≢_, _↔_, ⊎-elim}
+use mathlib.Core.Path.{_≡_, refl, sym, ap, subst, _∙_}
+use mathlib.Core.Logic.{inl, inr, _↔_, ⊎-elim}
 use mathlib.Core.Bool.{Bool, true}
-use mathlib.Core.List.{List, [], _∷_, _++_, List·Memᴰ}
+use mathlib.Core.List.{List, [], _∷_, _++_}
 use lib.ListN.{length, getD, take, replicate, length-append, length-replicate, List·getD-append, List·getD-eq-default}
 use lib.Seq.{getD-append-add, getD-take, length-take-le, take-at}
 use lib.Dec.{eqb, ltb}
-use borrow.Author.Tests.{eqb-true, eq-eqb, lt-ltb, le-ltb}
-use Rattle.laws.specs.Compared.{by-below, by-order}
-use Rattle.laws.specs.Each.{Each}
+use borrow.Author.Tests.{eqb-true, lt-ltb, le-ltb}
+use Rattle.laws.specs.Compared.{by-below}
 use Rattle.laws.specs.Test.{both, either}
 use Rattle.laws.specs.TestLaws.{both-first, both-second, both-hold, same-test, pick-true, pick-false, one-holds, either-first, either-second}
-use Rattle.walk.specs.Walk.{Tells}
-use Rattle.walk.proofs.Prefix.{images-alike}
+use Rattle.schemes.proofs.Judgements.{walk-alike}
+use Rattle.schemes.specs.Judging.{Arranges}
+use Rattle.plain.specs.Plain.{samePair, pairOfTwo}
+use Rattle.plain.proofs.Plain.{two-rising, two-falling, rows-lawful}
 use Rattle.beginnings.specs.Beginning.{Beginning}
 use Rattle.beginnings.specs.Order.{Before}
 use Rattle.beginnings.proofs.Order.{before-irrefl}
@@ -22,23 +23,11 @@ use Rattle.graph.specs.declared.Graph.{Graph}
 use Rattle.graph.specs.Graph.{entry}
 use Rattle.rows.specs.Rows.{blockOf}
 use Rattle.graph.specs.WellFormed.{WellFormed}
-use Rattle.arrangements.specs.Arrangement.{at, Reordering, Permitted}
-use Rattle.pairs.specs.Pairs.{Pair, pair, pairs, Between}
+use Rattle.arrangements.specs.Arrangement.{at, Permitted}
+use Rattle.pairs.specs.Pairs.{Pair, pair}
 use Rattle.graph.specs.Counts.{entryAt}
 use Rattle.words.proofs.Placed.{same-places}
-use Rattle.pairs.proofs.PairLaws.{pairs-given, pairs-has}
-use Rattle.judging.specs.Judging.{samePair, pairOfTwo, image, walkAll, padded}
-
--- ---- one pair or two
-
--- the test tells whether two pairs are one
-pub samePair-tells : Tells samePair
-unfolding samePair
-samePair-tells =
-    record {
-      equal = λ j k e. λ d. record { row = eqb-true (j .row) (k .row) (both-first _ _ e) d; column = eqb-true (j .column) (k .column) (both-second _ _ e) d };
-      itself = λ k. both-hold _ _ (eq-eqb (k .row) (k .row) refl) (eq-eqb (k .column) (k .column) refl);
-    }
+use Rattle.judging.specs.Judging.{walkAll, padded}
 
 -- ---- zeros after the last place
 
@@ -69,11 +58,6 @@ pub take-padded : (b : List ℕ) (n : ℕ) → length b ≡ n → take n (padded
 unfolding padded
 take-padded b n e = take-at b (replicate (32 - length b) 0) n e
 
--- so each pair has the image it had
-pub padded-image : (b : List ℕ) (k : Pair) → image (padded b) k ≡ image b k
-unfolding image
-padded-image b k = ap₂ pairOfTwo (padded-at b (k .row)) (padded-at b (k .column))
-
 -- ---- dictionary order of lists that end alike
 
 -- the starts of two of one length come in the order of the two
@@ -93,6 +77,11 @@ before-longer (v ∷ a) (w ∷ b) z e (inl h) = inl h
 before-longer (v ∷ a) (w ∷ b) z e (inr h) = inr (h .0, before-longer a b z (omega arith) (h .1))
 
 -- ---- permitted arrangements and beginnings of length n
+
+-- a permitted arrangement, whatever stands after its places
+pub permitted-arranges : (n starts : ℕ) (p : List ℕ) → Permitted n starts p → Arranges n (blockOf starts) p
+permitted-arranges n starts p a =
+    record { reorders = record { low = a .reordering .low; high = a .reordering .high; once = a .reordering .once }; in-block = a .in-block }
 
 module _ (n starts : ℕ) (high : n ≤ 32) where
   module _ (p : List ℕ) (h : Permitted n starts p) where
@@ -153,48 +142,18 @@ module _ (n starts : ℕ) (high : n ≤ 32) where
         λ b. subst (λ (x : List ℕ). Before p x) (sym eq) (subst (λ (x : List ℕ). Before x (take n q ++ replicate (32 - length (take n q)) 0)) (sym ep) (before-longer (take n p) (take n q) (replicate (32 - length (take n q)) 0) (lp ∙ sym lq) b)),
       )
 
--- ---- the images of the pairs of 1..n
-
--- an image is a pair of two vertices of 1..n, the smaller one first
-pub pairOfTwo-between : (n u v : ℕ) → 1 ≤ u → u ≤ n → 1 ≤ v → v ≤ n → u ≢ v → Between 1 n (pairOfTwo u v)
-unfolding pairOfTwo
-pairOfTwo-between n u v lu hu lv hv ne =
-    by-order u v (λ (h : u < v). rw (pick-true (ltb u v) (pair u v) (pair v u) (lt-ltb u v h)) (omega arith)) (λ (e : u ≡ v). absurd (ne e))
-    (λ (h : v < u). let w : v ≤ u = omega arith in rw (pick-false (ltb u v) (pair u v) (pair v u) (le-ltb u v w)) (omega arith))
-
-module _ (n : ℕ) (p : List ℕ) (h : Reordering n p) where
-  -- the image of a pair of 1..n is one
-  pub image-between : (k : Pair) → Between 1 n k → Between 1 n (image p k)
-  unfolding image
-  image-between k b =
-      pairOfTwo-between n (at p (k .row)) (at p (k .column)) (h .low (k .row) (omega arith) (omega arith)) (h .high (k .row) (omega arith) (omega arith))
-      (h .low (k .column) (omega arith) (omega arith)) (h .high (k .column) (omega arith) (omega arith))
-      (λ e. h .once (k .column) (k .row) (omega arith) (omega arith) (omega arith) (sym e))
-
-  -- the image of each pair of the list is in the list
-  pub images-inside : Each (λ k. List·Memᴰ (image p k) (pairs n)) (pairs n)
-  images-inside k m = pairs-has n (image p k) (image-between k (pairs-given n k m))
-
--- ---- so both have one walk, one clause
+-- ---- so both have one walk
 
 -- the walk of a beginning doesn't change when it is padded
 pub padded-walk : (g : Graph) (b : List ℕ) → walkAll g (padded b) ≡ walkAll g b
-unfolding walkAll
-padded-walk g b = images-alike samePair (entryAt g) (image (padded b)) (image b) (pairs (g .order)) (λ k m. padded-image b k) .0
+padded-walk g b = walk-alike (rows-lawful (g .order)) (entryAt g) (padded b) b (λ i l h. padded-at b i)
 
 -- ---- the entry at an image
 
 -- g's entry at the pair of u and v is that at (u, v)
 pub entry-of-two : (g : Graph) → WellFormed g → (u v : ℕ) → entryAt g (pairOfTwo u v) ≡ entry g u v
-unfolding pairOfTwo
 entry-of-two g w u v =
-    by-below u v (λ (h : u < v). rw (pick-true (ltb u v) (pair u v) (pair v u) (lt-ltb u v h)))
-    (λ (h : v ≤ u). rw (pick-false (ltb u v) (pair u v) (pair v u) (le-ltb u v h)) (w .symmetric v u))
-
--- and its entry at the image of a pair is that at (p(i), p(j))
-pub entry-of-image : (g : Graph) → WellFormed g → (p : List ℕ) (k : Pair) → entryAt g (image p k) ≡ entry g (at p (k .row)) (at p (k .column))
-unfolding image
-entry-of-image g w p k = entry-of-two g w (at p (k .row)) (at p (k .column))
+    by-below u v (λ (h : u < v). ap (entryAt g) (two-rising u v h)) (λ (h : v ≤ u). ap (entryAt g) (two-falling u v h) ∙ w .symmetric v u)
 
 -- the pair of u and v is (i, j) exactly where u and v are i and j, or j and i
 pub two-are : (u v i j : ℕ) → i < j → samePair (pairOfTwo u v) (pair i j) ≡ either (both (eqb u i) (eqb v j)) (both (eqb u j) (eqb v i))

@@ -8,20 +8,22 @@ use mathlib.Core.List.{List, _++_}
 use lib.IntN.{ℤ}
 use lib.ListN.{length, drop, replicate, length-append, length-drop}
 use Rattle.walk.proofs.Rising.{clause-length}
+use Rattle.schemes.specs.Judging.{writtenBy}
+use Rattle.plain.specs.Plain.{samePair}
 use Rattle.graph.specs.declared.Graph.{Graph}
 use Rattle.pairs.specs.Pairs.{pairs, pairCount}
 use Rattle.pairs.proofs.PairLaws.{pairs-length}
 use Rattle.judging.specs.declared.Verdict.{Verdict}
 use Rattle.judging.specs.declared.Verdict.the-variants.{Smaller, Nothing, Cut, Refused}
 use Rattle.judging.specs.declared.Judged.{Judged}
-use Rattle.judging.specs.Judging.{samePair, literalsOf, clauseOf}
+use Rattle.judging.specs.Judging.{literalsOf, clauseOf}
 use Rattle.judging.specs.Answer.{told, without, judgeAnswer, atStart, judgeBuffer}
 use Rattle.judging.specs.InWords.{InWords, malformed, cramped, cut-off, none-smaller, found-smaller}
 use Rattle.judging.proofs.Exact.{judged-in-words}
 
 -- a clause has at most n(n - 1)/2 literals
 pub clause-fits : (g : Graph) (p : List ℕ) → length (clauseOf g p) ≤ pairCount (g .order)
-unfolding clauseOf
+unfolding writtenBy
 clause-fits g p = rw (← pairs-length (g .order)) (clause-length samePair (literalsOf g p) (pairs (g .order)))
 
 -- except for "smaller", the arrangement is zero and no literal is written

@@ -1,128 +1,102 @@
--- Certificates of a graph: what the search finds is the first of them in dictionary order, and where it finds none there is none.
-use Prim.Native.Nat.{ℕ, _-_, _≤_}
+-- Certificates of a graph are those of the theory, with zeros after place n or without: so are the first of them.
+use Prim.Native.Nat.{ℕ}
 use mathlib.Core.Path.{_≡_, sym, ap, subst, _∙_}
 use mathlib.Core.Logic.{_⊎_, inl, inr}
 use mathlib.Core.List.{List}
 use lib.ListN.{length, take}
-use Rattle.walk.specs.Walk.{won, walk}
-use Rattle.walk.specs.Words.{StandsIn}
-use Rattle.walk.proofs.Standing.{standing-once}
+use Rattle.walk.specs.Walk.{won}
 use Rattle.beginnings.specs.Beginning.{Beginning}
 use Rattle.beginnings.specs.Order.{Before}
-use Rattle.beginnings.specs.Search.{none, first}
-use Rattle.beginnings.specs.Certificate.{Certificate, completed}
-use Rattle.beginnings.proofs.Order.{before-irrefl, before-trans}
 use Rattle.beginnings.proofs.Completed.{completed-whole}
-use Rattle.beginnings.proofs.FirstCertificate.{none-certified, first-certificate, first-of-certificates, certificate-found, none-found}
+use Rattle.schemes.specs.Judging.{judging, extended}
+use Rattle.schemes.specs.Judging
+use Rattle.schemes.proofs.Arranging.{beginning-arranges, arranges-beginning}
+use Rattle.schemes.proofs.Judgements.{won-extends}
+use Rattle.plain.specs.Plain.{byRows}
+use Rattle.plain.proofs.Plain.{rows-lawful}
 use Rattle.graph.specs.declared.Graph.{Graph}
 use Rattle.rows.specs.Rows.{blockOf}
 use Rattle.graph.specs.WellFormed.{WellFormed}
-use Rattle.pairs.specs.Pairs.{Pair, pairs}
+use Rattle.arrangements.specs.Arrangement.{Permitted}
+use Rattle.pairs.specs.Pairs.{Pair}
 use Rattle.graph.specs.Counts.{entryAt}
-use Rattle.judging.specs.Judging.{samePair, image, walkAll, judgedOn, judged, found, stepsFor, padded, certificateOf}
-use Rattle.judging.specs.Answer.{standingPair}
+use Rattle.judging.specs.Judging.{walkAll, padded, certificateOf}
 use Rattle.judging.specs.Certificates.{Certified, FirstCertified}
-use Rattle.judging.proofs.Arrangements.{take-padded, permitted-length, permitted-beginning, permitted-padded, padded-permitted, before-padded, padded-walk}
-use Rattle.judging.proofs.Judgements.{walk-stands, full-won, won-extends, won-stays, lost-stays}
-
--- it is one of them
-pub first-certified : {g : Graph} {p : List ℕ} {k : Pair} → FirstCertified g p k → Certified g p
-first-certified {k} f = record { permitted = f .permitted; pair = k; standing = f .standing }
-
--- ---- one at most
-
--- an arrangement has at most one standing pair
-pub one-standing : (g : Graph) (p : List ℕ) (k k′ : Pair) → StandsIn (entryAt g) (image p) (pairs (g .order)) k → StandsIn (entryAt g) (image p) (pairs (g .order)) k′ → k ≡ k′
-one-standing g p k k′ s t = standing-once (entryAt g) (image p) (pairs (g .order)) k k′ s t .1
-
--- and one certificate at most is the first
-pub one-first : (g : Graph) (p p′ : List ℕ) (k k′ : Pair) → FirstCertified g p k → FirstCertified g p′ k′ → (p ≡ p′) × (k ≡ k′)
-one-first g p p′ k k′ f f′ = (same, one-standing g p′ k k′ (subst (λ (q : List ℕ). StandsIn (entryAt g) (image q) (pairs (g .order)) k) same (f .standing)) (f′ .standing))
-  where
-    go : (p′ ≡ p) ⊎ Before p p′ → (p ≡ p′) ⊎ Before p′ p → p ≡ p′
-    go (inl e) y = sym e
-    go (inr h) (inl e) = e
-    go (inr h) (inr h′) = absurd (before-irrefl p (before-trans p p′ p h h′))
-
-    same : p ≡ p′
-    same = go (f .earliest p′ (first-certified f′)) (f′ .earliest p (first-certified f))
+use Rattle.judging.proofs.Arrangements.{take-padded, permitted-length, permitted-beginning, permitted-padded, permitted-arranges, padded-permitted, before-padded, padded-walk}
+use Rattle.judging.proofs.Meaning.{certified-won}
 
 module _ (g : Graph) (formed : WellFormed g) where
-  -- ---- certificates as won beginnings of length n
+  abbrev n : ℕ
+  n = g .order
 
-  -- the first n places of a certificate are a won beginning
-  pub certified-begins : (p : List ℕ) → Certified g p → Certificate (g .order) (blockOf (g .starts)) (judged g) (take (g .order) p)
-  certified-begins p c =
-      let n = g .order in
-      let long = permitted-length n (g .starts) (formed .order-high) p (c .permitted) in
-      let walks : walkAll g (take n p) ≡ won (c .pair) = sym (padded-walk g (take n p)) ∙ ap (walkAll g) (sym (permitted-padded n (g .starts) (formed .order-high) p (c .permitted))) ∙ walk-stands g p (c .pair) .1 (c .standing) in
+  abbrev block : ℕ → ℕ
+  block = blockOf (g .starts)
+
+  -- those of the theory
+  abbrev pub Certifies : List ℕ → Type 0
+  Certifies p = Judging.Certified (g .order) (byRows (g .order)) (blockOf (g .starts)) (entryAt g) p
+
+  abbrev pub FirstCertifies : List ℕ → Type 0
+  FirstCertifies p = Judging.FirstCertified (g .order) (byRows (g .order)) (blockOf (g .starts)) (entryAt g) p
+
+  -- ---- one certificate
+
+  pub certified-certifies : (p : List ℕ) → Certified g p → Certifies p
+  certified-certifies p c =
+      let k = certified-won g formed p (c .permitted) .0 c in
+      record { permitted = permitted-arranges n (g .starts) p (c .permitted); pair = k .0; wins = k .1 }
+
+  -- the first n places of a permitted arrangement have its walk
+  start-walk : (p : List ℕ) → Permitted (g .order) (g .starts) p → walkAll g (take (g .order) p) ≡ walkAll g p
+  start-walk p a = sym (padded-walk g (take n p)) ∙ ap (walkAll g) (sym (permitted-padded n (g .starts) (formed .order-high) p a))
+
+  start-certifies : (p : List ℕ) → Certified g p → Certifies (take (g .order) p)
+  start-certifies p c =
+      let k = certified-won g formed p (c .permitted) .0 c in
       record {
-        beginning = permitted-beginning n (g .starts) (formed .order-high) p (c .permitted) (formed .order-low);
-        whole = long;
-        wins = full-won g (take n p) long .1 (c .pair, walk-stands g (take n p) (c .pair) .0 walks);
+        permitted = beginning-arranges n block (take n p) (permitted-beginning n (g .starts) (formed .order-high) p (c .permitted) (formed .order-low)) (permitted-length n (g .starts) (formed .order-high) p (c .permitted));
+        pair = k .0;
+        wins = start-walk p (c .permitted) ∙ k .1;
       }
 
-  -- and a won beginning of length n, padded, is a certificate
-  pub certificate-padded : (b : List ℕ) → Certificate (g .order) (blockOf (g .starts)) (judged g) b → Certified g (padded b)
-  certificate-padded b c =
-      let s = full-won g b (c .whole) .0 (c .wins) in
-      record {
-        permitted = padded-permitted (g .order) (g .starts) (formed .order-high) b (c .beginning) (c .whole);
-        pair = s .0;
-        standing = walk-stands g (padded b) (s .0) .0 (padded-walk g b ∙ walk-stands g b (s .0) .1 (s .1));
-      }
+  pub padded-certified : (p : List ℕ) → Certifies p → length p ≡ g .order → Certified g (padded p)
+  padded-certified p c e =
+      let a : Permitted n (g .starts) (padded p) = padded-permitted n (g .starts) (formed .order-high) p (arranges-beginning n block (formed .order-low) p (c .permitted) e) e in
+      certified-won g formed (padded p) a .1 (c .pair, padded-walk g p ∙ c .wins)
 
-  -- ---- what the search finds
+  -- ---- the first
 
-  -- where it finds none there is none
-  pub none-certified-at : (budget s : ℕ) → found g budget ≡ none s → (p : List ℕ) → ¬ Certified g p
-  unfolding found
-  none-certified-at budget s e p c = none-certified (g .order) (blockOf (g .starts)) (judged g) (won-stays g) (lost-stays g) budget s e (take (g .order) p) (certified-begins p c)
-
-  -- where there is none and the budget reaches, it finds none
-  pub finds-none : (budget : ℕ) → ((p : List ℕ) → ¬ Certified g p) → stepsFor g ≤ budget → found g budget ≡ none (stepsFor g)
-  unfolding found
-  finds-none budget h l = none-found (g .order) (blockOf (g .starts)) (judged g) (won-stays g) (lost-stays g) budget (λ b c. h (padded b) (certificate-padded b c)) l
-
-  -- where there is one and the budget reaches, it finds a won beginning
-  pub finds-first : (budget : ℕ) (p : List ℕ) → Certified g p → stepsFor g ≤ budget → (b : List ℕ) × (found g budget ≡ first b (stepsFor g))
-  unfolding found
-  finds-first budget p c l = certificate-found (g .order) (blockOf (g .starts)) (judged g) (won-stays g) (lost-stays g) budget (take (g .order) p) (certified-begins p c) l
-
-  -- the first won beginning of length n, padded, is the first certificate
-  padded-first : (b : List ℕ) → Certificate (g .order) (blockOf (g .starts)) (judged g) b
-      → ((p : List ℕ) → Certificate (g .order) (blockOf (g .starts)) (judged g) p → (p ≡ b) ⊎ Before b p)
-      → FirstCertified g (padded b) (standingPair (walkAll g (padded b)))
-  unfolding standingPair
-  padded-first b c least =
-      record {
-        permitted = own .permitted;
-        standing = subst (λ (k : Pair). StandsIn (entryAt g) (image (padded b)) (pairs (g .order)) k) (ap standingPair (sym (walk-stands g (padded b) (own .pair) .1 (own .standing)))) (own .standing);
-        earliest = λ q d. later q d (least (take (g .order) q) (certified-begins q d));
-      }
+  pub padded-first : (p : List ℕ) (k : Pair) → FirstCertifies p → walkAll g p ≡ won k → FirstCertified g (padded p) k
+  padded-first p k f e =
+      record { certified = own; wins = padded-walk g p ∙ e; earliest = λ q c. later q c (f .earliest (take n q) (start-certifies q c) (permitted-length n (g .starts) (formed .order-high) q (c .permitted))) }
     where
-      own : Certified g (padded b)
-      own = certificate-padded b c
+      own : Certified g (padded p)
+      own = padded-certified p (f .certified) (f .long)
 
-      later : (q : List ℕ) → Certified g q → (take (g .order) q ≡ b) ⊎ Before b (take (g .order) q) → (q ≡ padded b) ⊎ Before (padded b) q
-      later q d (inl e) = inl (permitted-padded (g .order) (g .starts) (formed .order-high) q (d .permitted) ∙ ap padded e)
-      later q d (inr h) =
-          inr (before-padded (g .order) (g .starts) (formed .order-high) (padded b) q (own .permitted) (d .permitted) .1
-          (subst (λ (x : List ℕ). Before x (take (g .order) q)) (sym (take-padded b (g .order) (c .whole))) h))
+      later : (q : List ℕ) → Certified g q → (take (g .order) q ≡ p) ⊎ Before p (take (g .order) q) → (q ≡ padded p) ⊎ Before (padded p) q
+      later q c (inl s) = inl (permitted-padded n (g .starts) (formed .order-high) q (c .permitted) ∙ ap padded s)
+      later q c (inr h) =
+          inr (before-padded n (g .starts) (formed .order-high) (padded p) q (own .permitted) (c .permitted) .1
+          (subst (λ (x : List ℕ). Before x (take n q)) (sym (take-padded p n (f .long))) h))
 
-  -- and what it finds, completed, is the first
-  pub found-first : (budget : ℕ) (b : List ℕ) (s : ℕ) → found g budget ≡ first b s → FirstCertified g (certificateOf g b) (standingPair (walkAll g (certificateOf g b)))
-  unfolding found certificateOf
-  found-first budget b s e =
-      padded-first (completed (g .order) (blockOf (g .starts)) (g .order - length b) b)
-      (first-certificate (g .order) (blockOf (g .starts)) (judged g) (won-stays g) (lost-stays g) budget b s e)
-      (first-of-certificates (g .order) (blockOf (g .starts)) (judged g) (won-stays g) (lost-stays g) budget b s e)
+  pub start-first : (p : List ℕ) (k : Pair) → FirstCertified g p k → FirstCertifies (take (g .order) p) × (walkAll g (take (g .order) p) ≡ won k)
+  start-first p k f = (
+    record { certified = start-certifies p (f .certified); long = permitted-length n (g .starts) (formed .order-high) p (f .certified .permitted); earliest = λ q c e. earlier q c e (f .earliest (padded q) (padded-certified q c e)) },
+    start-walk p (f .certified .permitted) ∙ f .wins,
+  )
+    where
+      earlier : (q : List ℕ) → Certifies q → length q ≡ g .order → (padded q ≡ p) ⊎ Before p (padded q) → (q ≡ take (g .order) p) ⊎ Before (take (g .order) p) q
+      earlier q c e (inl s) = inl (sym (take-padded q n e) ∙ ap (take n) s)
+      earlier q c e (inr h) =
+          inr (subst (λ (x : List ℕ). Before (take n p) x) (take-padded q n e)
+          (before-padded n (g .starts) (formed .order-high) p (padded q) (f .certified .permitted) (padded-certified q c e .permitted) .0 h))
 
-  -- the certificate made from a won beginning stands at the pair at which that was won
-  pub certificate-walk : (b : List ℕ) (k : Pair) → Beginning (g .order) (blockOf (g .starts)) b
-      → walk samePair (entryAt g) (image b) (judgedOn (g .order) (length b)) ≡ won k → walkAll g (certificateOf g b) ≡ won k
+  -- ---- the certificate of a won beginning
+
+  -- it wins at the pair at which the beginning is won
+  pub certificate-walk : (b : List ℕ) (k : Pair) → Beginning (g .order) (blockOf (g .starts)) b → judging (byRows (g .order)) (entryAt g) b ≡ won k → walkAll g (certificateOf g b) ≡ won k
   unfolding certificateOf
   certificate-walk b k s w =
-      let c = completed-whole (g .order) (blockOf (g .starts)) b s in
-      padded-walk g (completed (g .order) (blockOf (g .starts)) (g .order - length b) b) ∙ ap (walkAll g) (c .extends)
-      ∙ won-extends g b (c .part) k s (sym (ap length (c .extends)) ∙ c .whole) w
+      let c = completed-whole n block b s in
+      padded-walk g (extended n (byRows n) block b) ∙ ap (walkAll g) (c .extends)
+      ∙ won-extends (rows-lawful n) (entryAt g) block b (c .part) k (s .begun) (sym (ap length (c .extends)) ∙ c .whole) w

@@ -1,4 +1,4 @@
--- Where the verdict is "smaller", the certificate given is the first in dictionary order, with its one standing pair.
+-- Where the verdict is "smaller", the certificate given is the first in dictionary order, with its winning pair.
 use Prim.Native.Nat.{ℕ}
 use native.Mathlib.Omega.{arith}
 use mathlib.Core.Path.{_≡_, refl, ap₂, subst}
@@ -11,7 +11,7 @@ use Rattle.judging.specs.Certificates.{FirstCertified}
 use Rattle.judging.specs.InWords.{InWords, malformed, cramped, cut-off, none-smaller, found-smaller, GivenSmaller}
 use Rattle.judging.proofs.Exact.{judged-in-words}
 
--- the certificate is permitted, stands at that pair, and every other one comes after it
+-- it is a certificate, wins at that pair, and every other one comes after it
 pub smaller-first : (g : Graph) (budget room row column steps : ℕ) → judgeAnswer g budget room .verdict ≡ Smaller row column steps
     → GivenSmaller g budget room row column steps (judgeAnswer g budget room)
 unfolding without

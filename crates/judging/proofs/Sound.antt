@@ -1,16 +1,17 @@
 -- Sound: every fully drawn graph of the same order and blocks that breaks the clause of a certificate has a permitted copy strictly earlier.
 use Prim.Native.Nat.{ℕ}
 use native.Mathlib.Omega.{arith}
-use mathlib.Core.Path.{_≡_, refl, sym, ap₂, _∙_, subst}
+use mathlib.Core.Path.{_≡_, ap₂, _∙_, subst}
 use mathlib.Core.Logic.{_↔_}
-use mathlib.Core.List.{List, _∷_, List·Memᴰ, List·Memᴰ·head, Memᴰ·append-left, Memᴰ·append-right}
+use mathlib.Core.List.{List}
 use lib.IntN.{ℤ}
 use lib.ListN.{length, take, drop}
 use lib.Seq.{take-append-seam}
-use Rattle.laws.specs.Each.{Each}
 use Rattle.walk.specs.Clause.{BreaksClause}
-use Rattle.walk.specs.Earlier.{Earlier, copy, LexLess}
-use Rattle.walk.proofs.Broken.{clause-sound}
+use Rattle.walk.specs.Earlier.{LexLess}
+use Rattle.schemes.proofs.Meaning.{sound-literals, written-breaks}
+use Rattle.plain.proofs.Plain.{rows-lawful}
+use Rattle.rows.specs.Rows.{blockOf}
 use Rattle.graph.specs.declared.Graph.{Graph}
 use Rattle.graph.specs.WellFormed.{WellFormed}
 use Rattle.graph.specs.Graph.{relabelled}
@@ -21,40 +22,15 @@ use Rattle.graph.proofs.Relabelling.{relabelled-order, relabelled-formed}
 use Rattle.judging.proofs.FullyDrawn.{relabelled-drawn}
 use Rattle.judging.proofs.OrderLaws.{same-order}
 use Rattle.judging.specs.declared.Judged.{Judged}
-use Rattle.judging.specs.Judging.{image, walkAll, literalsOf, clauseOf}
+use Rattle.judging.specs.Judging.{clauseOf}
 use Rattle.judging.specs.Answer.{told, without, judgeAnswer}
-use Rattle.judging.specs.Certificates.{Certified}
+use Rattle.judging.specs.Certificates.{FullGraph, Certified}
 use Rattle.judging.specs.InWords.{InWords, malformed, cramped, cut-off, none-smaller, found-smaller}
-use Rattle.judging.specs.Drawings.{FullGraph, EarlierCopy, BrokenBy, SaysSmaller, written}
-use Rattle.judging.proofs.Arrangements.{samePair-tells, images-inside}
-use Rattle.judging.proofs.Judgements.{walk-stands}
-use Rattle.judging.proofs.Certificates.{first-certified}
+use Rattle.judging.specs.Drawings.{EarlierCopy, BrokenBy, SaysSmaller, written}
+use Rattle.judging.proofs.Meaning.{copy-earlier}
+use Rattle.judging.proofs.Certificates.{certified-certifies}
 use Rattle.judging.proofs.Exact.{judged-in-words}
 use Rattle.judging.proofs.Buffer.{literals-counted, buffer-written}
-use Rattle.judging.proofs.Images.{relabelled-image}
-
--- ---- copies
-
--- a drawing with the same entries along ks is as early
-earlier-alike : {P : Type 0} (ks : List P) (x y z : P → ℕ) → Each (λ k. x k ≡ y k) ks → Earlier ks x z → Earlier ks y z
-earlier-alike ks x y z same e =
-    record {
-      before = e .before;
-      pair = e .pair;
-      after = e .after;
-      split = e .split;
-      agree = λ k m. sym (same k (subst (λ l. List·Memᴰ k l) (sym (e .split)) (Memᴰ·append-left (e .pair ∷ e .after) m))) ∙ e .agree k m;
-      zero-here = sym (same (e .pair) (subst (λ l. List·Memᴰ (e .pair) l) (sym (e .split)) (Memᴰ·append-right (e .before) (List·Memᴰ·head refl)))) ∙ e .zero-here;
-      one-there = e .one-there;
-    }
-
--- the relabelled graph is earlier exactly where the entries of the images are
-pub copy-earlier : (h : Graph) → WellFormed h → (p : List ℕ) → Earlier (pairs (h .order)) (copy (image p) (entryAt h)) (entryAt h) ↔ EarlierGraph (relabelled h p) h
-copy-earlier h w p =
-    rw (relabelled-order h p w) (
-      earlier-alike (pairs (h .order)) (copy (image p) (entryAt h)) (entryAt (relabelled h p)) (entryAt h) (λ k m. sym (relabelled-image h w p k m)),
-      earlier-alike (pairs (h .order)) (entryAt (relabelled h p)) (copy (image p) (entryAt h)) (entryAt h) (relabelled-image h w p),
-    )
 
 -- for fully drawn graphs, in the published order of the matrices too
 pub copy-published : (h : Graph) → WellFormed h → FullyDrawn h → (p : List ℕ) → LexLess (matrixWord (relabelled h p)) (matrixWord h) ↔ EarlierGraph (relabelled h p) h
@@ -63,18 +39,16 @@ copy-published h w d p =
 
 -- ---- sound
 
-module _ (g : Graph) (p : List ℕ) (c : Certified g p) where
+module _ (g : Graph) (w : WellFormed g) (p : List ℕ) (c : Certified g p) where
   -- what breaks the clause of the certificate p has by p a permitted copy strictly earlier
   pub sound : (h : Graph) → FullGraph (g .order) (g .starts) h → BrokenBy g p h → EarlierCopy h p
-  unfolding walkAll literalsOf clauseOf
   sound h f b =
+      let d = certified-certifies g w p c in
+      let lits = written-breaks (rows-lawful (g .order)) (entryAt g) p (pairs (g .order)) (λ k m. m) (d .permitted .reorders) (entryAt h) .1 b in
+      let e = sound-literals (rows-lawful (g .order)) (blockOf (g .starts)) (entryAt g) p d (entryAt h) (λ j m. f .full .known (j .row) (j .column)) lits in
       record {
         permitted = rw (f .order-is, f .starts-are) (c .permitted);
-        earlier =
-            copy-earlier h (f .formed) p .0
-            (rw (f .order-is)
-            (clause-sound samePair-tells (entryAt g) (image p) (pairs (g .order)) (images-inside (g .order) p (c .permitted .reordering)) (c .pair)
-            (walk-stands g p (c .pair) .1 (c .standing)) (entryAt h) (λ j m. f .full .known (j .row) (j .column)) b));
+        earlier = copy-earlier h (f .formed) p .0 (rw (f .order-is) (e .earlier));
       }
 
   -- and in the published order
@@ -83,17 +57,17 @@ module _ (g : Graph) (p : List ℕ) (c : Certified g p) where
 
 -- ---- what judging writes
 
--- the arrangement that goes with "smaller" is a certificate
-smaller-certified : (g : Graph) (budget room : ℕ) → told (judgeAnswer g budget room .verdict) .kind ≡ 1 → Certified g (judgeAnswer g budget room .arrangement)
+-- the arrangement that goes with "smaller" is a certificate of a well-formed graph
+smaller-certified : (g : Graph) (budget room : ℕ) → told (judgeAnswer g budget room .verdict) .kind ≡ 1 → WellFormed g × Certified g (judgeAnswer g budget room .arrangement)
 unfolding told without
 smaller-certified g budget room = at (judged-in-words g budget room)
   where
-    at : {a : Judged} → InWords g budget room a → told (a .verdict) .kind ≡ 1 → Certified g (a .arrangement)
+    at : {a : Judged} → InWords g budget room a → told (a .verdict) .kind ≡ 1 → WellFormed g × Certified g (a .arrangement)
     at (malformed no-graph) e = absurd (omega arith)
     at (cramped w h) e = absurd (omega arith)
     at (cut-off w h l) e = absurd (omega arith)
     at (none-smaller w h l nowhere) e = absurd (omega arith)
-    at (found-smaller w h l f) e = first-certified f
+    at (found-smaller w h l f) e = (w, f .certified)
 
 module _ (g : Graph) (budget : ℕ) (buffer : List ℤ) (says : SaysSmaller g budget buffer) where
   -- and the literals are its clause
@@ -106,7 +80,8 @@ module _ (g : Graph) (budget : ℕ) (buffer : List ℤ) (says : SaysSmaller g bu
   pub written-sound : (h : Graph) → FullGraph (g .order) (g .starts) h → BreaksClause (pairs (g .order)) (written g budget buffer) (entryAt h)
       → EarlierCopy h (judgeAnswer g budget (length buffer) .arrangement)
   written-sound h f b =
-      sound g (judgeAnswer g budget (length buffer) .arrangement) (smaller-certified g budget (length buffer) says) h f
+      let c = smaller-certified g budget (length buffer) says in
+      sound g (c .0) (judgeAnswer g budget (length buffer) .arrangement) (c .1) h f
       (subst (λ (lits : List ℤ). BreaksClause (pairs (g .order)) lits (entryAt h)) written-is b)
 
   -- and in the published order

@@ -38,16 +38,16 @@ told (Refused number place) = record { kind = 3; refusal = number; row = 0; colu
 unfoldable pub without : Verdict → Judged
 without v = record { verdict = v; arrangement = replicate 32 0; literals = 0 }
 
--- the standing pair, where the walk is won
-unfoldable pub standingPair : Outcome Pair → Pair
-standingPair (won k) = k
-standingPair lost = pair 0 0
-standingPair still-open = pair 0 0
+-- the winning pair, where the walk is won
+unfoldable pub winningPair : Outcome Pair → Pair
+winningPair (won k) = k
+winningPair lost = pair 0 0
+winningPair still-open = pair 0 0
 
--- the certificate p with its standing pair and its clause
+-- the certificate p with its winning pair and its clause
 unfoldable pub smaller : Graph → List ℕ → ℕ → Judged
 smaller g p steps =
-    let k = standingPair (walkAll g p) in
+    let k = winningPair (walkAll g p) in
     record { verdict = Smaller (k .row) (k .column) steps; arrangement = p; literals = length (clauseOf g p) }
 
 unfoldable pub answerFor : Graph → ℕ → Found → Judged

@@ -1,37 +1,62 @@
 -- Certificates of a graph and the literals of their clauses, in the rules' words.
-use Prim.Native.Nat.{ℕ, _<_}
+use Prim.Native.Nat.{ℕ, _≤_}
 use mathlib.Core.Path.{_≡_}
 use mathlib.Core.Logic.{_⊎_, _≢_}
 use mathlib.Core.List.{List}
 use lib.IntN.{ℤ, pos, negℤ}
-use Rattle.walk.specs.Words.{StandsIn}
+use Rattle.laws.specs.Each.{Each}
+use Rattle.walk.specs.Walk.{won}
 use Rattle.beginnings.specs.Order.{Before}
 use Rattle.graph.specs.declared.Graph.{Graph}
+use Rattle.graph.specs.Graph.{relabelled}
+use Rattle.graph.specs.WellFormed.{WellFormed}
 use Rattle.arrangements.specs.Arrangement.{Permitted}
 use Rattle.pairs.specs.Pairs.{Pair, Between, pairs, numberOf}
 use Rattle.graph.specs.Counts.{entryAt}
-use Rattle.judging.specs.Judging.{image}
+use Rattle.judging.specs.Order.{FullyDrawn, EarlierGraph}
+use Rattle.plain.specs.Plain.{image}
+use Rattle.judging.specs.Judging.{walkAll}
 
--- a permitted arrangement with a standing pair
+-- ---- full drawings
+
+-- a fully drawn, well-formed graph of order n with these block starts
+pub record FullGraph (n starts : ℕ) (h : Graph) : Type 0 where
+  pub formed : WellFormed h
+  pub full : FullyDrawn h
+  pub order-is : h .order ≡ n
+  pub starts-are : h .starts ≡ starts
+
+-- h is a full drawing of g: of its order and blocks, with every entry that is known in g
+pub record Completes (g h : Graph) : Type 0 where
+  pub drawing : FullGraph (g .order) (g .starts) h
+  pub agrees : Each (λ k. entryAt g k ≤ 1 → entryAt h k ≡ entryAt g k) (pairs (g .order))
+
+-- ---- certificates
+
+-- a permitted arrangement under which every full drawing of the graph has an earlier relabelled copy
 pub record Certified (g : Graph) (p : List ℕ) : Type 0 where
   pub permitted : Permitted (g .order) (g .starts) p
-  pub pair : Pair
-  pub standing : StandsIn (entryAt g) (image p) (pairs (g .order)) pair
+  pub earlier : (h : Graph) → Completes g h → EarlierGraph (relabelled h p) h
 
--- p, with the standing pair k, comes first of all of them in dictionary order
+-- p, with the winning pair k, comes first of all of them in dictionary order
 pub record FirstCertified (g : Graph) (p : List ℕ) (k : Pair) : Type 0 where
-  pub permitted : Permitted (g .order) (g .starts) p
-  pub standing : StandsIn (entryAt g) (image p) (pairs (g .order)) k
+  pub certified : Certified g p
+  pub wins : walkAll g p ≡ won k
   pub earliest : (q : List ℕ) → Certified g q → (q ≡ p) ⊎ Before p q
 
--- j is a pair of 1..n that comes before k in row order
-pub record ComesBefore (n : ℕ) (j k : Pair) : Type 0 where
-  pub between : Between 1 n j
-  pub smaller : numberOf n j < numberOf n k
+-- ---- the clause
 
--- the rules' sentence: for each pair j before the standing one k that isn't its own image, "not j" if a is 1, else j's image; for k both
+-- j is a pair of 1..n and is k or comes before it in row order
+pub record UpTo (n : ℕ) (j k : Pair) : Type 0 where
+  pub between : Between 1 n j
+  pub at-most : numberOf n j ≤ numberOf n k
+
+-- j was met, other than against itself, up to and with the winning pair k: at its own place, or as the image of i
+pub data MetUpTo (g : Graph) (p : List ℕ) (k j : Pair) : Type 0 where
+  in-place : UpTo (g .order) j k → image p j ≢ j → MetUpTo g p k j
+  as-image : (i : Pair) → UpTo (g .order) i k → image p i ≢ i → j ≡ image p i → MetUpTo g p k j
+
+-- the rules' sentence: every entry that was met and is known in the graph itself, "not" where it is 1
 pub data InClause (g : Graph) (p : List ℕ) (k : Pair) (z : ℤ) : Type 0 where
-  not-pair : (j : Pair) → ComesBefore (g .order) j k → image p j ≢ j → entryAt g j ≡ 1 → z ≡ negℤ (pos (numberOf (g .order) j)) → InClause g p k z
-  its-image : (j : Pair) → ComesBefore (g .order) j k → image p j ≢ j → entryAt g j ≢ 1 → z ≡ pos (numberOf (g .order) (image p j)) → InClause g p k z
-  not-standing : z ≡ negℤ (pos (numberOf (g .order) k)) → InClause g p k z
-  standing-image : z ≡ pos (numberOf (g .order) (image p k)) → InClause g p k z
+  not-pair : (j : Pair) → MetUpTo g p k j → entryAt g j ≡ 1 → z ≡ negℤ (pos (numberOf (g .order) j)) → InClause g p k z
+  the-pair : (j : Pair) → MetUpTo g p k j → entryAt g j ≡ 0 → z ≡ pos (numberOf (g .order) j) → InClause g p k z

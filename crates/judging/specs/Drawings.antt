@@ -1,28 +1,22 @@
 -- Full drawings, their permitted copies, and what a clause does to them.
 use Prim.Native.Nat.{ℕ}
 use mathlib.Core.Path.{_≡_}
+use mathlib.Core.Logic.{_⊎_}
 use mathlib.Core.List.{List}
 use lib.IntN.{ℤ}
 use lib.ListN.{length, take}
 use Rattle.walk.specs.Clause.{BreaksClause}
 use Rattle.graph.specs.declared.Graph.{Graph}
-use Rattle.graph.specs.WellFormed.{WellFormed}
-use Rattle.judging.specs.Order.{FullyDrawn, EarlierGraph}
+use Rattle.judging.specs.Order.{EarlierGraph}
 use Rattle.arrangements.specs.Arrangement.{Permitted}
 use Rattle.graph.specs.Graph.{relabelled}
 use Rattle.pairs.specs.Pairs.{pairs}
 use Rattle.graph.specs.Counts.{entryAt}
 use Rattle.judging.specs.Judging.{clauseOf}
+use Rattle.judging.specs.Certificates.{FullGraph}
 use Rattle.judging.specs.Answer.{told, judgeAnswer, judgeBuffer}
 
 -- ---- drawings and copies
-
--- a fully drawn, well-formed graph of order n with these block starts
-pub record FullGraph (n starts : ℕ) (h : Graph) : Type 0 where
-  pub formed : WellFormed h
-  pub full : FullyDrawn h
-  pub order-is : h .order ≡ n
-  pub starts-are : h .starts ≡ starts
 
 -- the copy of h by p is permitted and strictly earlier than h
 pub record EarlierCopy (h : Graph) (p : List ℕ) : Type 0 where
@@ -33,10 +27,10 @@ pub record EarlierCopy (h : Graph) (p : List ℕ) : Type 0 where
 abbrev pub Smallest : Graph → Type 0
 Smallest g = (p : List ℕ) → ¬ EarlierCopy g p
 
--- q is permitted for h, and no permitted copy of the copy by q is earlier than it
-pub record SmallestBy (h : Graph) (q : List ℕ) : Type 0 where
+-- q is permitted for h, and the copy by it is at or before every permitted copy
+pub record LeastBy (h : Graph) (q : List ℕ) : Type 0 where
   pub permitted : Permitted (h .order) (h .starts) q
-  pub smallest : Smallest (relabelled h q)
+  pub least : (p : List ℕ) → Permitted (h .order) (h .starts) p → (relabelled h q ≡ relabelled h p) ⊎ EarlierGraph (relabelled h q) (relabelled h p)
 
 -- ---- clauses
 

@@ -21,7 +21,7 @@ pub record AllReached (g : Graph) (bs : List (List ℕ)) : Type 0 where
   pub exactly : (b : List ℕ) → List·Memᴰ b bs ↔ IsReached (g .order) (blockOf (g .starts)) (judged g) b
   pub rising : Rising bs
 
--- the answer p, with its standing pair and its clause
+-- the answer p, with its winning pair and its clause
 abbrev pub smallerBy : Graph → List ℕ → Pair → Judged
 smallerBy g p k = record { verdict = Smaller (k .row) (k .column) (stepsFor g); arrangement = p; literals = length (clauseOf g p) }
 

@@ -3,9 +3,9 @@
 
 // How a judgement ended. Steps are the beginnings tried.
 pub enum Verdict {
-    // Some permitted renumbering is smaller: the standing pair of the first certificate.
+    // Some permitted renumbering makes every full drawing smaller: the winning pair of the first certificate.
     Smaller { row: u32, column: u32, steps: u32 },
-    // No permitted arrangement has a standing pair.
+    // There is no certificate.
     Nothing { steps: u32 },
     // The budget was used up first.
     Cut { steps: u32 },

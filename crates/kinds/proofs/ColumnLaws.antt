@@ -1,31 +1,38 @@
 -- Which columns of a row are looked at when a clause is written: all at which something is written.
-use Prim.Native.Nat.{ℕ, _+_, _-_, _/_, _%_, _^_, _≤_, _<_}
+use Prim.Native.Nat.{ℕ, _+_, _-_, _/_, _%_, _^_, _≤_, _<_, min, max}
 use native.Mathlib.Omega.{arith}
-use mathlib.Core.Path.{_≡_, refl, ap, _∙_}
-use mathlib.Core.Logic.{_≢_}
+use mathlib.Core.Path.{_≡_, sym, ap, _∙_}
+use mathlib.Core.Logic.{_≢_, _⊎_, inl, inr}
 use mathlib.Core.Bool.{true}
 use mathlib.Core.List.{List}
 use lib.Bits.{bitAnd, bitOr}
 use lib.ListN.{getD}
 use lib.Pow.{shr-shr}
-use borrow.Author.Tests.{leb-true, ltb-true}
 use Rattle.laws.specs.Compared.{by-below, by-same}
 use Rattle.laws.specs.Bit.{bit}
-use Rattle.laws.specs.BitLaws.{bits-past, below-of-bits, bit-of-and, bit-of-or, bit-of-power}
+use Rattle.laws.specs.BitLaws.{bit-small, bits-past, below-of-bits, bit-of-and, bit-of-or, bit-of-power}
 use Rattle.laws.specs.Masks.{bit-of-without}
 use Rattle.rows.specs.Rows.{entryIn}
 use Rattle.words.specs.Placed.{row}
 use Rattle.arrangements.specs.Arrangement.{at, Reordering, isReordering}
 use Rattle.composing.specs.Composed.{inverse}
-use Rattle.pairs.specs.Pairs.{Pair, pair}
+use Rattle.pairs.specs.Pairs.{pair}
 use Rattle.arrangements.proofs.Permits.{reordering-tested}
 use Rattle.composing.proofs.Composing.{inverse-before, inverse-reordering}
-use Rattle.judging.specs.Judging.{samePair, pairOfTwo, image}
-use Rattle.turns.specs.Turns.{allMarks, marksOf, Within}
-use Rattle.kinds.specs.Kinds.{reached, kindAt, FirstIn, Before, Firsts, Sources, Ahead}
-use Rattle.turns.proofs.AlikeRows.{all-bits}
-use Rattle.judging.proofs.Images.{two-rising, two-falling}
-use Rattle.kinds.proofs.KindLaws.{reached-row, reached-other, Seen, itself, edge, late-edge, gap, late-gap, unknown, seen}
+use Rattle.plain.specs.Plain.{samePair, pairOfTwo, image}
+use Rattle.plain.proofs.Plain.{two-rising, two-falling}
+use Rattle.turns.specs.Turns.{allMarks, Within}
+use Rattle.kinds.specs.Kinds.{reached, kindAt, FirstIn, Before, Firsts, SourcesBy, Ahead}
+use Rattle.turns.proofs.Ones.{all-bits}
+use Rattle.kinds.proofs.KindLaws.{reached-rows, reached-columns, some-known, meets-kind, kind-meets}
+
+-- ---- the lowest bits of a word
+
+low-bits : (n k : ℕ) → n ≤ 32 → k < n → bit (allMarks / 2 ^ (32 - n)) k ≡ 1
+low-bits n k small h = ap (λ (x : ℕ). x % 2) (shr-shr allMarks (32 - n) k) ∙ all-bits (32 - n + k) (omega arith)
+
+no-high-bits : (n k : ℕ) → n ≤ 32 → n ≤ k → bit (allMarks / 2 ^ (32 - n)) k ≡ 0
+no-high-bits n k small h = ap (λ (x : ℕ). x % 2) (shr-shr allMarks (32 - n) k) ∙ bits-past allMarks 32 (32 - n + k) (omega arith) (omega arith)
 
 -- ---- the first places of a path
 
@@ -56,7 +63,7 @@ first-more p i mask w e f =
 pub first-done : (p : List ℕ) (m n mask : ℕ) → FirstIn m p mask → n ≤ m → FirstIn n p mask
 first-done p m n mask f h = record { has = λ k l u. f .has k l (omega arith) }
 
--- the places before the standing pair's row, up to it, and up to its column hold vertices
+-- the places before the winning pair's row, up to it, and up to its column hold vertices
 module _ (n : ℕ) (p : List ℕ) (row column : ℕ) (r : Reordering n p) (small : n ≤ 32) (rising : row < column) (high : column ≤ n) where
   within-upto : (d : ℕ) → d ≤ n → Within d p
   within-upto d h = record { low = λ i l m. r .low i l (omega arith); high = λ i l m. omega (arith, r .high i l (omega arith)) }
@@ -84,121 +91,91 @@ first-before n d p q mask r e small f =
 
 -- ---- what is reached
 
--- a reached pair is of the last one's row or of one before it
-module _ (last k : Pair) (h : reached last k ≡ true) where
-  reached-rows : k .row ≤ last .row
-  reached-rows =
-      by-same (k .row) (last .row) (λ e. omega arith)
-      (λ d. let l = ltb-true (k .row) (last .row) (reached-other (k .row) (k .column) (last .row) (last .column) d ∙ h) in omega arith)
-
-  reached-columns : k .row ≡ last .row → k .column ≤ last .column
-  reached-columns e = leb-true (k .column) (last .column) (reached-row (k .row) (k .column) (last .row) (last .column) e ∙ h)
-
-module _ (i row column : ℕ) (low : 1 ≤ column) (high : column ≤ 32) where
+module _ (i row column : ℕ) (low : 1 ≤ row) (low′ : 1 ≤ column) (high : column ≤ 32) where
   pub firsts-all : Firsts (pair row column) i allMarks
   firsts-all = record { has = λ j l h e. all-bits (j - 1) (omega arith) }
 
   pub firsts-some : i ≡ row → Firsts (pair row column) i (allMarks / 2 ^ (32 - column))
-  firsts-some q =
-      record {
-        has = λ j l h e.
-            let c = reached-columns (pair row column) (pair i j) e q in
-            ap (λ (x : ℕ). x % 2) (shr-shr allMarks (32 - column) (j - 1)) ∙ all-bits (32 - column + (j - 1)) (omega arith);
-      }
+  firsts-some q = record { has = λ j l h e. low-bits column (j - 1) high (omega (arith, reached-columns (pair row column) (pair i j) low low′ e q)) }
 
   pub firsts-none : row ≤ i → i ≢ row → Firsts (pair row column) i 0
-  firsts-none l d = record { has = λ j a h e. absurd (d (omega (arith, reached-rows (pair row column) (pair i j) e))) }
+  firsts-none l d = record { has = λ j a h e. absurd (d (omega (arith, reached-rows (pair row column) (pair i j) low low′ e))) }
 
-module _ (q : List ℕ) (n row column u : ℕ) (r : row < column) where
-  -- which vertices make a reached pair with one that stands at u
-  other-up : u ≡ row → (v : ℕ) → reached (pair row column) (pairOfTwo u v) ≡ true → v ≤ column
-  other-up e v h =
-      by-below u v
-      (λ (l : u < v). reached-columns (pair row column) (pair u v) (rw (two-rising u v l) at h) e)
-      (λ (l : v ≤ u). omega arith)
+module _ (row column u : ℕ) (low : 1 ≤ row) (rising : row < column) where
+  -- a pair of u that is reached: of u's row, or of another vertex's that is not greater
+  module _ (v : ℕ) (h : reached (pair row column) (pairOfTwo u v) ≡ true) where
+    of-row : u < v → (u ≤ row) × (u ≡ row → v ≤ column)
+    of-row l =
+        let e : reached (pair row column) (pair u v) ≡ true = rw (two-rising u v l) at h in
+        (reached-rows (pair row column) (pair u v) low (omega arith) e, reached-columns (pair row column) (pair u v) low (omega arith) e)
 
-  other-at : row < u → (v : ℕ) → reached (pair row column) (pairOfTwo u v) ≡ true → v ≤ row
-  other-at a v h =
-      by-below u v
-      (λ (l : u < v). let c = reached-rows (pair row column) (pair u v) (rw (two-rising u v l) at h) in absurd (omega arith))
-      (λ (l : v ≤ u). reached-rows (pair row column) (pair v u) (rw (two-falling u v l) at h))
+    of-other : v ≤ u → (v ≤ row) × (v ≡ row → u ≤ column)
+    of-other l =
+        let e : reached (pair row column) (pair v u) ≡ true = rw (two-falling u v l) at h in
+        (reached-rows (pair row column) (pair v u) low (omega arith) e, reached-columns (pair row column) (pair v u) low (omega arith) e)
 
-  other-before : column < u → (v : ℕ) → reached (pair row column) (pairOfTwo u v) ≡ true → v ≤ row - 1
-  other-before a v h =
-      by-below u v
-      (λ (l : u < v). let c = reached-rows (pair row column) (pair u v) (rw (two-rising u v l) at h) in absurd (omega arith))
-      (λ (l : v ≤ u).
-      let e : reached (pair row column) (pair v u) ≡ true = rw (two-falling u v l) at h in
-      let c = reached-rows (pair row column) (pair v u) e in
-      by-same v row (λ s. let d = reached-columns (pair row column) (pair v u) e s in absurd (omega arith)) (λ s. omega arith))
+    -- which vertices these are
+    other-up : u ≡ row → v ≤ column
+    other-up e = by-below u v (λ (l : u < v). of-row l .1 e) (λ (l : v ≤ u). omega arith)
 
-  pub sources-all : n ≤ 32 → Sources (pair row column) n q u allMarks
-  sources-all small = record { has = λ j l h e. all-bits (j - 1) (omega arith) }
+    other-at : row < u → v ≤ row
+    other-at a = by-below u v (λ (l : u < v). absurd (omega (arith, of-row l .0))) (λ (l : v ≤ u). of-other l .0)
 
-  pub sources-up : (mask : ℕ) → u ≡ row → Before n column q mask → Sources (pair row column) n q u mask
-  sources-up mask e b = record { has = λ j l h k. b .has j l h (other-up e (at q j) k) }
+    other-before : column < u → v ≤ row - 1
+    other-before a =
+        by-below u v (λ (l : u < v). absurd (omega (arith, of-row l .0)))
+        (λ (l : v ≤ u). by-same v row (λ s. absurd (omega (arith, of-other l .1 s))) (λ s. omega (arith, of-other l .0)))
 
-  pub sources-at : (mask : ℕ) → row ≤ u → u ≢ row → Before n row q mask → Sources (pair row column) n q u mask
-  sources-at mask e d b = record { has = λ j l h k. b .has j l h (other-at (omega arith) (at q j) k) }
+  module _ (before at-row up : ℕ) where
+    pub sources-all : SourcesBy row column u before at-row up allMarks
+    sources-all = record { are = λ n q small b a c. record { has = λ j l h e. all-bits (j - 1) (omega arith) } }
 
-  pub sources-before : (mask : ℕ) → column < u → Before n (row - 1) q mask → Sources (pair row column) n q u mask
-  sources-before mask e b = record { has = λ j l h k. b .has j l h (other-before e (at q j) k) }
+    pub sources-up : u ≡ row → SourcesBy row column u before at-row up up
+    sources-up e = record { are = λ n q small b a c. record { has = λ j l h k. c .has j l h (other-up (at q j) k e) } }
 
--- u is the place of i
-pub source-known : (last : Pair) (n : ℕ) (q : List ℕ) (i u mask : ℕ) → u ≡ at q i → Sources last n q u mask → Sources last n q (at q i) mask
-source-known last n q i u mask e s = rw e at s
+    pub sources-at : row ≤ u → u ≢ row → SourcesBy row column u before at-row up at-row
+    sources-at e d = record { are = λ n q small b a c. record { has = λ j l h k. a .has j l h (other-at (at q j) k (omega arith)) } }
+
+    pub sources-before : column < u → SourcesBy row column u before at-row up before
+    sources-before e = record { are = λ n q small b a c. record { has = λ j l h k. b .has j l h (other-before (at q j) k e) } }
 
 -- ---- the columns of a row
 
-module _ (e w q : List ℕ) (last : Pair) (n i first source : ℕ) (small : n ≤ 32) (low : 1 ≤ i) (more : i < n) (f : Firsts last i first)
-    (s : Sources last n q (at q i) source) (ones marks rest : ℕ) (po : ones ≡ row e i) (pm : marks ≡ marksOf e w i) (pr : rest ≡ source - bitAnd source marks) where
-  -- a column at which something is written is looked at
-  looked-at : (j : ℕ) → i < j → j ≤ n → {c : ℕ}
-      → Seen (entryIn e w i j) (samePair (image q (pair i j)) (pair i j)) (reached last (pair i j)) (reached last (image q (pair i j))) c → c ≢ 0
-      → bit (bitOr (bitAnd ones first) rest) (j - 1) ≡ 1
-  unfolding image
-  looked-at j l h (edge d a t) z =
-      let b = f .has j (omega arith) (omega arith) t in
-      let o : bit ones (j - 1) ≡ 1 = rw po (omega arith) in
-      bit-of-or (bitAnd ones first) rest (j - 1) ∙ omega (arith, bit-of-and ones first (j - 1))
-  looked-at j l h (gap d a t) z =
-      let b = s .has j (omega arith) h t in
-      let o : bit (row e i) (j - 1) ≡ 0 = omega arith in
-      let v : bit (row w i) (j - 1) ≡ 0 = omega arith in
-      let m : bit marks (j - 1) ≡ 0 = rw pm (omega (arith, bit-of-or (row e i) (row w i) (j - 1))) in
-      let g : bit rest (j - 1) ≡ 1 = rw pr (omega (arith, bit-of-without source marks (j - 1))) in
-      bit-of-or (bitAnd ones first) rest (j - 1) ∙ omega arith
-  looked-at j l h (itself d) z = absurd (z refl)
-  looked-at j l h (late-edge a t) z = absurd (z refl)
-  looked-at j l h (late-gap a t) z = absurd (z refl)
-  looked-at j l h (unknown a t) z = absurd (z refl)
+-- those after i of a mask
+module _ (n i mask : ℕ) (small : n ≤ 32) where
+  abbrev pub after : ℕ
+  after = bitAnd mask (allMarks / 2 ^ (32 - n)) / 2 ^ i
 
-  -- one of 1..n is kept
-  kept : (m j : ℕ) → 1 ≤ j → j ≤ n → bit m (j - 1) ≡ 1 → bit (bitAnd m (allMarks / 2 ^ (32 - n))) (j - 1) ≡ 1
-  kept m j l h b =
-      let o : bit (allMarks / 2 ^ (32 - n)) (j - 1) ≡ 1 = ap (λ (x : ℕ). x % 2) (shr-shr allMarks (32 - n) (j - 1)) ∙ all-bits (32 - n + (j - 1)) (omega arith) in
-      bit-of-and m (allMarks / 2 ^ (32 - n)) (j - 1) ∙ omega arith
+  after-bit : (d : ℕ) → bit after d ≡ min (bit mask (i + d)) (bit (allMarks / 2 ^ (32 - n)) (i + d))
+  after-bit d = ap (λ (x : ℕ). x % 2) (shr-shr (bitAnd mask (allMarks / 2 ^ (32 - n))) i d) ∙ bit-of-and mask (allMarks / 2 ^ (32 - n)) (i + d)
 
-  pub columns-fit : bitAnd (bitOr (bitAnd ones first) rest) (allMarks / 2 ^ (32 - n)) / 2 ^ i < 2 ^ (n + 1 - (i + 1))
-  columns-fit =
-      below-of-bits (bitAnd (bitOr (bitAnd ones first) rest) (allMarks / 2 ^ (32 - n)) / 2 ^ i) (n + 1 - (i + 1))
-      (λ k h.
-      ap (λ (x : ℕ). x % 2) (shr-shr (bitAnd (bitOr (bitAnd ones first) rest) (allMarks / 2 ^ (32 - n))) i k)
-      ∙ past (i + k) (omega arith))
+  pub after-fits : after < 2 ^ (n + 1 - (i + 1))
+  after-fits = below-of-bits after (n + 1 - (i + 1)) (λ d h. after-bit d ∙ omega (arith, no-high-bits n (i + d) small (omega arith)))
+
+  after-has : (d : ℕ) → i + d < n → bit mask (i + d) ≡ 1 → bit after d ≡ 1
+  after-has d h b = after-bit d ∙ omega (arith, low-bits n (i + d) small h)
+
+-- the columns that are looked at: nothing is written at another one
+module _ (w q : List ℕ) (r c n i u before at-row up first source doubts rest : ℕ) (small : n ≤ 32) (b : Before n (r - 1) q before) (a : Before n r q at-row) (t : Before n c q up)
+    (low : 1 ≤ i) (place : u ≡ at q i) (f : Firsts (pair r c) i first) (s : SourcesBy r c u before at-row up source) (unknown : doubts ≡ row w i)
+    (less : rest ≡ bitOr first source - bitAnd (bitOr first source) doubts) where
+  -- a reached one, or one whose source is reached, unless it is unknown
+  looked-at : (j : ℕ) → 1 ≤ j → j ≤ n → bit (row w i) (j - 1) ≡ 0 → (reached (pair r c) (pair i j) ≡ true) ⊎ (reached (pair r c) (pairOfTwo (at q i) (at q j)) ≡ true)
+      → bit rest (j - 1) ≡ 1
+  looked-at j l h known m = rw (less, unknown) (bit-of-without (bitOr first source) (row w i) (j - 1) ∙ omega (arith, known, bit-of-or first source (j - 1), in-one m))
     where
-      past : (k : ℕ) → n ≤ k → bit (bitAnd (bitOr (bitAnd ones first) rest) (allMarks / 2 ^ (32 - n))) k ≡ 0
-      past k h =
-          let o : bit (allMarks / 2 ^ (32 - n)) k ≡ 0 =
-          ap (λ (x : ℕ). x % 2) (shr-shr allMarks (32 - n) k) ∙ bits-past allMarks 32 (32 - n + k) (omega arith) (omega arith) in
-          bit-of-and (bitOr (bitAnd ones first) rest) (allMarks / 2 ^ (32 - n)) k ∙ omega arith
+      in-one : (reached (pair r c) (pair i j) ≡ true) ⊎ (reached (pair r c) (pairOfTwo (at q i) (at q j)) ≡ true) → max (bit first (j - 1)) (bit source (j - 1)) ≡ 1
+      in-one (inl k) = omega (arith, f .has j l (omega arith) k, bit-small source (j - 1))
+      in-one (inr k) = omega (arith, s .are n q small b a t .has j l h (rw place k), bit-small first (j - 1))
 
-  pub columns-ahead : Ahead (kindAt e w q last) n i (i + 1) (bitAnd (bitOr (bitAnd ones first) rest) (allMarks / 2 ^ (32 - n)) / 2 ^ i)
+  pub columns-ahead : (e : List ℕ) → Ahead (kindAt e w q (pair r c)) n i (i + 1) (bitAnd rest (allMarks / 2 ^ (32 - n)) / 2 ^ i)
   unfolding kindAt
-  columns-ahead =
+  columns-ahead e =
       record {
         has = λ d h z.
-            let a : i + 1 + d - 1 ≡ i + d = omega arith in
-            let seen-there = seen (entryIn e w i (i + 1 + d)) (samePair (image q (pair i (i + 1 + d))) (pair i (i + 1 + d))) (reached last (pair i (i + 1 + d))) (reached last (image q (pair i (i + 1 + d)))) in
-            ap (λ (x : ℕ). x % 2) (shr-shr (bitAnd (bitOr (bitAnd ones first) rest) (allMarks / 2 ^ (32 - n))) i d)
-            ∙ (rw a at (kept (bitOr (bitAnd ones first) rest) (i + 1 + d) (omega arith) h (looked-at (i + 1 + d) (omega arith) h seen-there z)));
+            let j : ℕ = i + 1 + d in
+            let index : i + 1 + d - 1 ≡ i + d = omega arith in
+            let m = kind-meets (entryIn e w i j) (samePair (image q (pair i j)) (pair i j)) (reached (pair r c) (pair i j)) (reached (pair r c) (image q (pair i j))) z in
+            let known = some-known (entryIn e w i j) (λ k. z (sym (meets-kind (entryIn e w i j) _ _ _ m) ∙ k)) in
+            after-has n i rest small d (omega arith) (rw index at (looked-at j (omega arith) h (omega arith) (m .reaches)));
       }

@@ -2,26 +2,30 @@
 use Prim.Native.Nat.{ℕ, _+_, _-_, _≤_}
 use mathlib.Core.Path.{_≡_}
 use mathlib.Core.Logic.{_≢_}
-use mathlib.Core.Bool.{Bool, true}
+use mathlib.Core.Bool.{Bool, true, not}
 use mathlib.Core.List.{List}
-use lib.Dec.{leb, ltb, eqb}
-use Rattle.laws.specs.Test.{pick}
+use lib.Dec.{eqb}
+use Rattle.laws.specs.Test.{either, pick}
 use Rattle.laws.specs.Bit.{bit}
 use Rattle.rows.specs.Rows.{entryIn}
 use Rattle.arrangements.specs.Arrangement.{at}
 use Rattle.pairs.specs.Pairs.{Pair, pair}
-use Rattle.judging.specs.Judging.{samePair, pairOfTwo, image}
+use Rattle.plain.specs.Plain.{samePair, pairOfTwo, image}
+use Rattle.plain.specs.Before.{rowBefore}
 
--- the pair k is the last one or comes before it, in row order
+-- the pair k is the last one or comes before it
 unfoldable pub reached : Pair → Pair → Bool
-reached last k = pick (eqb (k .row) (last .row)) (leb (k .column) (last .column)) (ltb (k .row) (last .row))
+reached last k = not (rowBefore last k)
 
--- what is written for a pair with entry a, by whether it is its own image, is reached, and is the image of a reached one:
--- 1 for "not" the pair, 2 for the pair, 0 for nothing
+-- what is written for an entry a that was met: 1 for "not" the pair, 2 for the pair, 0 for nothing
+unfoldable pub kindOf : ℕ → ℕ
+kindOf a = pick (eqb a 1) 1 (pick (eqb a 0) 2 0)
+
+-- the same for a pair with entry a, by whether it is its own image, is reached, and is the image of a reached one
 unfoldable pub kindBy : ℕ → Bool → Bool → Bool → ℕ
-kindBy a own here source = pick own 0 (pick (eqb a 1) (pick here 1 0) (pick (eqb a 0) (pick source 2 0) 0))
+kindBy a own here source = pick own 0 (pick (either here source) (kindOf a) 0)
 
--- the same at pair k of the rows, where q is the inverse of the arrangement and last its standing pair
+-- the same at pair k of the rows, where q is the inverse of the arrangement and last its winning pair
 unfoldable pub kindAt : List ℕ → List ℕ → List ℕ → Pair → Pair → ℕ
 kindAt edges unknowns q last k =
     kindBy (entryIn edges unknowns (k .row) (k .column)) (samePair (image q k) k) (reached last k) (reached last (image q k))
@@ -43,6 +47,10 @@ pub record Firsts (last : Pair) (i mask : ℕ) : Type 0 where
 -- the mask has each of 1..n whose pair with a vertex that stands at u is the image of a reached one
 pub record Sources (last : Pair) (n : ℕ) (q : List ℕ) (u mask : ℕ) : Type 0 where
   pub has : (j : ℕ) → 1 ≤ j → j ≤ n → reached last (pairOfTwo u (at q j)) ≡ true → bit mask (j - 1) ≡ 1
+
+-- the mask has these for every q, made of masks of the vertices at the places before row, up to row, and up to column
+pub record SourcesBy (row column u before at-row up mask : ℕ) : Type 0 where
+  pub are : (n : ℕ) (q : List ℕ) → n ≤ 32 → Before n (row - 1) q before → Before n row q at-row → Before n column q up → Sources (pair row column) n q u mask
 
 -- the mask has each column from j on at which row i is written, column j as its lowest bit
 pub record Ahead (t : Pair → ℕ) (n i j mask : ℕ) : Type 0 where

@@ -1,13 +1,16 @@
 // The columns of a row at which something may be written.
-ghost use Prim.Native.Nat.{_+_, _-_, _^_, _≤_, _<_};
-ghost use Rattle.arrangements.specs.Arrangement.{at};
+ghost use mathlib.Core.Path.{_≡_};
+ghost use mathlib.Core.Bool.{true};
+ghost use mathlib.Core.List.{List};
+ghost use Prim.Native.Nat.{ℕ, _+_, _-_, _^_, _≤_, _<_};
+ghost use Rattle.arrangements.specs.Arrangement.{isReordering};
 ghost use Rattle.pairs.specs.Pairs.{pair};
 ghost use Rattle.turns.specs.Turns.{Within};
-ghost use Rattle.kinds.specs.Kinds.{kindAt, FirstIn, Before, Firsts, Sources, Ahead};
-use words::without;
+ghost use Rattle.kinds.specs.Kinds.{kindAt, FirstIn, Before, Firsts, SourcesBy, Ahead};
+use arrangements::places::vertex_of;
 use turns::path::weight_of;
-use turns::walked::edges_of;
-use turns::walked::marks_of;
+use turns::walked::row_of;
+use words::without;
 
 // The vertices at the first places of the path.
 pub fn first_places(path: &[u8; 32], upto: u32) -> u32
@@ -24,8 +27,8 @@ pub fn first_places(path: &[u8; 32], upto: u32) -> u32
 }
 
 // The columns at which row i is reached.
-pub fn firsts(i: u32, row: u32, column: u32) -> u32
-    requires { ⌜ (1 ≤ column) × (column ≤ 32) ⌝ }
+fn firsts(i: u32, row: u32, column: u32) -> u32
+    requires { ⌜ (1 ≤ row) × (1 ≤ column) × (column ≤ 32) ⌝ }
     ensures { λ r. ⌜ Firsts (pair row column) i r ⌝ }
 {
     if i < row {
@@ -38,19 +41,10 @@ pub fn firsts(i: u32, row: u32, column: u32) -> u32
 }
 
 // The vertices whose pair with one that stands at u is the image of a reached pair, by those at the places before the
-// standing pair's row, up to it, and up to its column.
-pub fn sources<'a>(
-    places: &'a [u8; 32],
-    n: u32,
-    row: u32,
-    column: u32,
-    u: u32,
-    before: u32,
-    at: u32,
-    up: u32,
-) -> u32
-    requires { ⌜ (n ≤ 32) × (1 ≤ row) × (row < column) × Before n (row - 1) (now places) before × Before n row (now places) at × Before n column (now places) up ⌝ }
-    ensures { λ r. ⌜ Sources (pair row column) n (now (places .entry)) u r ⌝ }
+// winning pair's row, up to it, and up to its column.
+fn sources(row: u32, column: u32, u: u32, before: u32, at: u32, up: u32) -> u32
+    requires { ⌜ (1 ≤ row) × (row < column) ⌝ }
+    ensures { λ r. ⌜ SourcesBy row column u before at up r ⌝ }
 {
     if u < row {
         return 0xFFFF_FFFF;
@@ -64,23 +58,26 @@ pub fn sources<'a>(
     before
 }
 
-// The columns after i at which row i may be written, column i + 1 as the lowest bit.
+// The columns after i at which row i may be written, column i + 1 as the lowest bit: those reached or whose source is
+// reached, less the unknown ones. The masks have the vertices at the places before the winning pair's row, up to it, and
+// up to its column.
 pub fn columns_of<'a>(
-    edges: &'a [u32; 32],
     unknowns: &'a [u32; 32],
     places: &'a [u8; 32],
     n: u32,
     row: u32,
     column: u32,
+    before: u32,
+    at: u32,
+    up: u32,
     i: u32,
-    first: u32,
-    source: u32,
 ) -> u32
-    requires { ⌜ (n ≤ 32) × (1 ≤ i) × (i < n) × Firsts (pair row column) i first × Sources (pair row column) n (now places) (at (now places) i) source ⌝ }
-    ensures { λ r. ⌜ (r < 2 ^ (n + 1 - (i + 1))) × Ahead (kindAt (now (edges .entry)) (now (unknowns .entry)) (now (places .entry)) (pair row column)) n i (i + 1) r ⌝ }
+    requires { ⌜ (n ≤ 32) × (isReordering n (now places) ≡ true) × (1 ≤ row) × (row < column) × (column ≤ n) × Before n (row - 1) (now places) before × Before n row (now places) at × Before n column (now places) up × (1 ≤ i) × (i < n) ⌝ }
+    ensures { λ r. ⌜ (r < 2 ^ (n + 1 - (i + 1))) × ((edges : List ℕ) → Ahead (kindAt edges (now (unknowns .entry)) (now (places .entry)) (pair row column)) n i (i + 1) r) ⌝ }
 {
-    let ones = edges_of(edges, i);
-    let marks = marks_of(edges, unknowns, i);
-    let columns = (ones & first) | without(source, marks);
+    let u = vertex_of(n, places, i);
+    let first = firsts(i, row, column);
+    let source = sources(row, column, u, before, at, up);
+    let columns = without(first | source, row_of(unknowns, i));
     (columns & (0xFFFF_FFFF >> (32 - n))) >> i
 }

@@ -67,7 +67,7 @@ pub fn put_line(
     put_end(out, lists, arrangement, clause)
 }
 
-// A line without a standing pair at the start of the buffer.
+// A line without a winning pair at the start of the buffer.
 pub fn put_bare(
     out: &mut [u8],
     number: u32,

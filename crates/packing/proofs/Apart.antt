@@ -21,7 +21,7 @@ place-itself place h = pick-true (leb place 4294967295) place 4294967295 (le-leb
 -- ---- judgements, within the bounds that judging keeps
 
 module _ (budget : ℕ) (a : Judged) (b : Bounded budget a) (h : budget < 2 ^ 32) where
-  -- the row of the standing pair
+  -- the row of the winning pair
   pub packed-row : rowIn (packed a) ≡ told (a .verdict) .row
   unfolding packed
   packed-row = row-is _ _ _ _ _ (judged-fits budget a b h)

@@ -3,21 +3,18 @@ use Prim.Native.Nat.{ℕ, _+_, _≤_, _<_, _^_}
 use native.Mathlib.Omega.{arith}
 use mathlib.Core.Path.{_≡_, refl}
 use mathlib.Core.Bool.{Bool, true, false}
-use mathlib.Core.List.{List, List·Memᴰ·head, Memᴰ·append-right}
 use borrow.Author.Tests.{leb-true}
 use lib.Dec.{eqb, leb}
 use Rattle.laws.specs.Test.{pick}
 use Rattle.graph.specs.declared.Graph.{Graph}
-use Rattle.pairs.specs.Pairs.{Pair, pairs, pairCount, Between}
-use Rattle.graph.specs.Counts.{entryAt}
-use Rattle.pairs.proofs.PairLaws.{pairs-given, pairCount-mono}
-use Rattle.walk.specs.Words.{StandsIn}
+use Rattle.pairs.specs.Pairs.{pairCount}
+use Rattle.pairs.proofs.PairLaws.{pairCount-mono}
 use Rattle.judging.specs.declared.Judged.{Judged}
-use Rattle.judging.specs.Judging.{image}
 use Rattle.judging.specs.Answer.{told, without, judgeAnswer}
 use Rattle.judging.specs.InWords.{InWords, malformed, cramped, cut-off, none-smaller, found-smaller}
 use Rattle.judging.proofs.Exact.{judged-in-words}
 use Rattle.judging.proofs.Buffer.{clause-fits}
+use Rattle.judging.proofs.Literals.{winning-between}
 use Rattle.packing.specs.Packing.{placeTold, codeTold, lowTold}
 use Rattle.packing.proofs.Fields.{Fitting}
 
@@ -44,10 +41,6 @@ pub record Bounded (budget : ℕ) (a : Judged) : Type 0 where
   pub steps-within : told (a .verdict) .steps ≤ budget
   pub place-small : told (a .verdict) .place ≤ 496
 
--- the standing pair is one of 1..n
-stands-between : (g : Graph) (p : List ℕ) (k : Pair) → StandsIn (entryAt g) (image p) (pairs (g .order)) k → Between 1 (g .order) k
-stands-between g p k s = pairs-given (g .order) k (rw (s .split) (Memᴰ·append-right (s .before) (List·Memᴰ·head refl)))
-
 -- judging a graph value stays within these
 pub judged-bounded : (g : Graph) (budget room : ℕ) → Bounded budget (judgeAnswer g budget room)
 unfolding told without
@@ -59,7 +52,7 @@ judged-bounded g budget room = at (judged-in-words g budget room)
     at (cut-off w h l) = omega arith
     at (none-smaller w h l nowhere) = omega arith
     at (found-smaller w h l {p} {k} f) =
-        let b = stands-between g p k (f .standing) in
+        let b = winning-between g p k (f .wins) in
         let few = clause-fits g p in
         let most : pairCount (g .order) ≤ 496 = pairCount-mono (g .order) 32 (w .order-high) in
         record {

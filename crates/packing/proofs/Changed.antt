@@ -50,4 +50,4 @@ arrangement-whole g budget room = at (judged-in-words g budget room)
     at (cramped w h) = refl
     at (cut-off w h l) = refl
     at (none-smaller w h l nowhere) = refl
-    at (found-smaller w h l f) = f .permitted .reordering .long
+    at (found-smaller w h l f) = f .certified .permitted .reordering .long

@@ -3,58 +3,46 @@ use Prim.Native.Nat.{ℕ, zero, suc, _-_, _≤_}
 use native.Mathlib.Omega.{arith}
 use mathlib.Core.Path.{_≡_, refl, sym, ap, _∙_}
 use mathlib.Core.Bool.{Bool, true, false}
-use mathlib.Core.List.{List, [], _∷_, _++_}
-use lib.Dec.{leb, eqb}
+use mathlib.Core.List.{List, _++_}
+use lib.Dec.{leb}
 use lib.IntN.{ℤ}
 use lib.ListN.{length, take, drop, replicate}
 use lib.Seq.{length-take-le}
 use borrow.Author.Tests.{eq-eqb, ne-eqb, leb-true}
 use Rattle.laws.specs.Test.{pick}
 use Rattle.laws.specs.TestLaws.{refused, passed}
-use Rattle.laws.specs.Each.{Each, each-first, each-rest}
-use Rattle.walk.specs.Walk.{Turn, wins, goes-on, loses, Outcome, won, ending, turn, walk}
+use Rattle.walk.specs.Walk.{won}
 use Rattle.beginnings.specs.Beginning.{Beginning}
 use Rattle.beginnings.specs.Search.{cut, none, first}
 use Rattle.beginnings.specs.Search
 use Rattle.beginnings.specs.Certificate.{completed}
 use Rattle.beginnings.proofs.Completed.{completed-whole}
 use Rattle.beginnings.proofs.FirstCertificate.{found-reached}
+use Rattle.schemes.specs.Judging.{judging}
+use Rattle.schemes.specs.Judging
+use Rattle.schemes.proofs.Judgements.{of-won}
+use Rattle.plain.specs.Plain.{byRows}
 use Rattle.graph.specs.declared.Graph.{Graph}
 use Rattle.rows.specs.Rows.{blockOf}
 use Rattle.graph.specs.WellFormed.{WellFormed, wellFormed}
-use Rattle.arrangements.specs.Arrangement.{at, Permitted, isPermitted}
-use Rattle.pairs.specs.Pairs.{Pair, pair, pairs, pairCount}
+use Rattle.arrangements.specs.Arrangement.{at, Permitted, isReordering, isPermitted}
+use Rattle.pairs.specs.Pairs.{pair, pairs, pairCount}
 use Rattle.graph.specs.Counts.{entryAt}
 use Rattle.graph.proofs.Formed.{formed}
-use Rattle.arrangements.proofs.Permits.{permitted-tested}
+use Rattle.arrangements.proofs.Permits.{permitted, permitted-tested, reordering-tested}
 use Rattle.judging.specs.declared.Verdict.the-variants.{Smaller, Nothing, Cut, Refused}
 use Rattle.exploring.specs.declared.explore.Explored.{Explored}
 use Rattle.judging.specs.declared.Judged.{Judged}
-use Rattle.judging.specs.Judging.{samePair, image, walkAll, clauseOf, judged, judgedOn, found, padded, certificateOf}
-use Rattle.judging.specs.Answer.{without, standingPair, smaller, answerFor, judgeAnswer, atStart, judgeBuffer}
-use Rattle.turns.specs.Turns.{codeOf, turnAt, firstPair, Within}
+use Rattle.judging.specs.Judging.{walkAll, clauseOf, judged, found, padded, certificateOf}
+use Rattle.judging.specs.Answer.{without, winningPair, smaller, answerFor, judgeAnswer, atStart, judgeBuffer}
+use Rattle.composing.specs.Composed.{inverse}
+use Rattle.turns.specs.Turns.{turnAt, firstPair, Places}
 use Rattle.exploring.specs.Found.{foundBy}
 use Rattle.graph.specs.Graph.{graphOf}
 use Rattle.judging.proofs.Arrangements.{padded-permitted}
-use Rattle.turns.proofs.TurnCodes.{turn-codes}
-use Rattle.judging.proofs.Judgements.{of-won}
+use Rattle.search.specs.Won.{IsWon}
+use Rattle.clause.proofs.CodeCertificate.{inverse-places, wins-there}
 use Rattle.judging.proofs.Certificates.{certificate-walk}
-
--- ---- the pair at which a walk is won is the first that does not go on
-
-by-turn : (t : Turn) (j : Pair) (rest : Outcome Pair) (k other : Pair) → ending t j rest ≡ won k → (rest ≡ won k → other ≡ k) → pick (eqb (codeOf t) 0) other j ≡ k
-unfolding ending codeOf pick
-by-turn wins j rest k other e h = cc
-by-turn goes-on j rest k other e h = h e
-by-turn loses j rest k other e h = cc
-
-first-won : (v : Pair → ℕ) (img : Pair → Pair) (t : Pair → ℕ) (ks : List Pair) (k : Pair) → Each (λ j. codeOf (turn samePair v img j) ≡ t j) ks → walk samePair v img ks ≡ won k
-    → firstPair t ks ≡ k
-unfolding walk firstPair
-first-won v img t [] k h e = cc
-first-won v img t (j ∷ ks) k h e =
-    ap (λ (c : ℕ). pick (eqb c 0) (firstPair t ks) j) (sym (each-first (λ i. codeOf (turn samePair v img i) ≡ t i) h))
-    ∙ by-turn (turn samePair v img j) j (walk samePair v img ks) k (firstPair t ks) e (first-won v img t ks k (each-rest (λ i. codeOf (turn samePair v img i) ≡ t i) h))
 
 pub taken-long : (n : ℕ) (es us : List ℕ) (starts : ℕ) → wellFormed (graphOf n es us starts) ≡ true → (start : List ℕ) (depth : ℕ) → length start ≡ 32 → depth ≤ n → length (take depth start) ≡ depth
 taken-long n es us starts w start depth l d = length-take-le depth start (omega (arith, formed (graphOf n es us starts) w .order-high))
@@ -77,32 +65,42 @@ module _ (n : ℕ) (es us : List ℕ) (starts : ℕ) (w : wellFormed (graphOf n 
   pub certificate-tested : isPermitted n starts path ≡ true
   certificate-tested = permitted-tested n starts path is-permitted
 
-  pub certificate-within : Within n path
-  certificate-within =
-      let r = is-permitted .reordering in
-      record { low = r .low; high = λ i a c. omega (arith, r .high i a c, is-formed .order-high) }
+  -- the certificate wins where the beginning is won
+  pub certificate-wins : judged (graphOf n es us starts) (take depth start) ≡ Search.won → IsWon (walkAll (graphOf n es us starts) path)
+  unfolding Judging.judged
+  certificate-wins j =
+      let r = of-won (judging (byRows n) (entryAt (graphOf n es us starts)) (take depth start)) j in
+      record { pair = r .0; at = rw is-certificate (certificate-walk (graphOf n es us starts) is-formed (take depth start) (r .0) b (r .1)) }
 
-  module _ (j : judged (graphOf n es us starts) (take depth start) ≡ Search.won) (row column : ℕ) (s : pair row column ≡ firstPair (turnAt es us path) (pairs n)) where
-    won-walk : (k : Pair) × (walkAll (graphOf n es us starts) path ≡ won k)
-    unfolding judged
-    won-walk =
-        let r = of-won (walk samePair (entryAt (graphOf n es us starts)) (image (take depth start)) (judgedOn n (length (take depth start)))) j in
-        (r .0, rw is-certificate (certificate-walk (graphOf n es us starts) is-formed (take depth start) (r .0) b (r .1)))
-
-    pub stands-there : walkAll (graphOf n es us starts) path ≡ won (pair row column)
-    unfolding walkAll
-    stands-there =
-        let r = won-walk in
-        r .1 ∙ ap won (sym (first-won (entryAt (graphOf n es us starts)) (image path) (turnAt es us path) (pairs n) (r .0) (λ k m. turn-codes (graphOf n es us starts) is-formed path k) (r .1)) ∙ sym s)
-
-    pub smaller-is : (steps count : ℕ) → count ≡ length (clauseOf (graphOf n es us starts) path)
-        → _≡_ {A = Judged} (record { verdict = Smaller row column steps; arrangement = path; literals = count }) (smaller (graphOf n es us starts) (certificateOf (graphOf n es us starts) (take depth start)) steps)
-    unfolding smaller standingPair
-    smaller-is steps count e = rw (← is-certificate, stands-there, e)
+  pub certified-is : (r : Judged) (steps : ℕ) → r ≡ smaller (graphOf n es us starts) path steps → r ≡ smaller (graphOf n es us starts) (certificateOf (graphOf n es us starts) (take depth start)) steps
+  certified-is r steps e = e ∙ ap (λ (q : List ℕ). smaller (graphOf n es us starts) q steps) is-certificate
 
   pub clause-is : (before after : List ℤ) → after ≡ clauseOf (graphOf n es us starts) path ++ drop (length (clauseOf (graphOf n es us starts) path)) before
       → after ≡ clauseOf (graphOf n es us starts) (certificateOf (graphOf n es us starts) (take depth start)) ++ drop (length (clauseOf (graphOf n es us starts) (certificateOf (graphOf n es us starts) (take depth start)))) before
   clause-is before after e = e ∙ ap (λ (q : List ℕ). clauseOf (graphOf n es us starts) q ++ drop (length (clauseOf (graphOf n es us starts) q)) before) is-certificate
+
+-- ---- a certificate as it is told
+
+module _ (n : ℕ) (es us : List ℕ) (starts : ℕ) (w : wellFormed (graphOf n es us starts) ≡ true) (path : List ℕ) (p : isPermitted n starts path ≡ true) where
+  is-arrangement : Permitted n starts path
+  is-arrangement = permitted n starts path (formed (graphOf n es us starts) w .order-high) p
+
+  pub certificate-reorders : isReordering n path ≡ true
+  certificate-reorders = reordering-tested n path (is-arrangement .reordering)
+
+  module _ (places : List ℕ) (q : places ≡ inverse n path) where
+    pub certificate-places : Places n path places
+    certificate-places = inverse-places n starts path places (formed (graphOf n es us starts) w .order-high) is-arrangement q
+
+    module _ (o : IsWon (walkAll (graphOf n es us starts) path)) (row column : ℕ) (s : pair row column ≡ firstPair (turnAt es us path places) (pairs n)) where
+      -- it wins at the pair that is found
+      pub wins-at : walkAll (graphOf n es us starts) path ≡ won (pair row column)
+      wins-at = wins-there (graphOf n es us starts) (formed (graphOf n es us starts) w) path places is-arrangement q (o .pair) (o .at) row column s
+
+      pub smaller-is : (steps count : ℕ) → count ≡ length (clauseOf (graphOf n es us starts) path)
+          → _≡_ {A = Judged} (record { verdict = Smaller row column steps; arrangement = path; literals = count }) (smaller (graphOf n es us starts) path steps)
+      unfolding smaller winningPair
+      smaller-is steps count e = rw (wins-at, e)
 
 pub order-least : (n : ℕ) (es us : List ℕ) (starts : ℕ) → wellFormed (graphOf n es us starts) ≡ true → 1 ≤ n
 order-least n es us starts w = formed (graphOf n es us starts) w .order-low
@@ -137,11 +135,11 @@ module _ (g : Graph) (budget : ℕ) (e : Explored) (path : List ℕ) (f : foundB
 
   module _ (k : e .kind ≡ 1) where
     pub found-begins : Beginning (g .order) (blockOf (g .starts)) (take (e .depth) path)
-    unfolding found
+    unfolding Judging.found
     found-begins = found-reached (g .order) (blockOf (g .starts)) (judged g) budget (take (e .depth) path) (e .steps) (found-first k) .0 .beginning
 
     pub found-won : judged g (take (e .depth) path) ≡ Search.won
-    unfolding found
+    unfolding Judging.found
     found-won = found-reached (g .order) (blockOf (g .starts)) (judged g) budget (take (e .depth) path) (e .steps) (found-first k) .1
 
 -- ---- the buffer

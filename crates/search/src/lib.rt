@@ -1,4 +1,4 @@
-// Judging a partially drawn graph: does some permitted renumbering make it smaller in dictionary order?
+// Judging a partially drawn graph: does some permitted renumbering make every full drawing of it smaller in dictionary order?
 ghost use mathlib.Core.Path.{_≡_};
 ghost use mathlib.Core.Bool.{true};
 ghost use mathlib.Core.List.{_++_};
@@ -11,13 +11,16 @@ ghost use Rattle.words.specs.Placed.{placed};
 ghost use Rattle.rows.specs.Rows.{blockOf};
 ghost use Rattle.pairs.specs.Pairs.{pairCount};
 ghost use Rattle.graph.specs.WellFormed.{wellFormed};
-ghost use Rattle.judging.specs.Judging.{judged, found, clauseOf, certificateOf};
+ghost use Rattle.arrangements.specs.Arrangement.{isPermitted};
+ghost use Rattle.judging.specs.Judging.{walkAll, judged, found, clauseOf, certificateOf};
 ghost use Rattle.graph.specs.Graph.{graphOf};
+ghost use Rattle.search.specs.Won.{IsWon};
 ghost use Rattle.exploring.specs.Masks.{blockMask};
 ghost use Rattle.judging.specs.Answer.{without, smaller, answerFor, atStart, judgeAnswer, judgeBuffer};
 use clause::certificate::complete;
-use clause::certificate::standing;
+use clause::certificate::winning;
 use clause::written::write_clause;
+use composing::composed::inverse_of;
 use exploring::explore::Explored;
 use exploring::explore::explore;
 use exploring::masks::block_masks;
@@ -46,6 +49,33 @@ fn has_room(n: u32, room: usize) -> bool
     pair_count(n) as usize <= room
 }
 
+// The answer for a permitted arrangement whose walk is won: its winning pair, and the clause written.
+fn tell_smaller<'a, 'b>(
+    n: u32,
+    edges: &'a [u32; 32],
+    unknowns: &'a [u32; 32],
+    starts: u32,
+    path: [u8; 32],
+    steps: u32,
+    literals: &'b mut [i32],
+) -> Judged
+    requires { ⌜ (wellFormed (graphOf n (now edges) (now unknowns) starts) ≡ true) × (pairCount n ≤ length (now literals)) × (isPermitted n starts path ≡ true) × IsWon (walkAll (graphOf n (now edges) (now unknowns) starts) path) ⌝ }
+    ensures { λ r. ⌜ (r ≡ smaller (graphOf n (now (edges .entry)) (now (unknowns .entry)) starts) path steps) × (now (literals .exit) ≡ clauseOf (graphOf n (now (edges .entry)) (now (unknowns .entry)) starts) path ++ drop (length (clauseOf (graphOf n (now (edges .entry)) (now (unknowns .entry)) starts) path)) (now (literals .entry))) ⌝ }
+{
+    let places = inverse_of(n, &path);
+    let at = winning(edges, unknowns, &path, &places, n);
+    let row = at.row;
+    let column = at.column;
+    let count = write_clause(
+        edges, unknowns, &path, &places, n, starts, row, column, literals,
+    );
+    Judged {
+        verdict: Verdict::Smaller { row, column, steps },
+        arrangement: path,
+        literals: count,
+    }
+}
+
 // The answer where the path's first places are the first won beginning: its certificate, and the clause written.
 fn certify<'a, 'b>(
     n: u32,
@@ -63,15 +93,7 @@ fn certify<'a, 'b>(
     let steps = end.steps;
     let mut path = start;
     complete(n, starts, blocks, end.depth, &mut path);
-    let at = standing(edges, unknowns, &path, n);
-    let row = at.row;
-    let column = at.column;
-    let count = write_clause(edges, unknowns, &path, n, starts, row, column, literals);
-    Judged {
-        verdict: Verdict::Smaller { row, column, steps },
-        arrangement: path,
-        literals: count,
-    }
+    tell_smaller(n, edges, unknowns, starts, path, steps, literals)
 }
 
 // The answer for a well-formed graph and a buffer with room.

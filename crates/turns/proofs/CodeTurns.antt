@@ -1,20 +1,28 @@
--- What the code's steps come to, one law for each answer and each turn of a loop.
-use Prim.Native.Nat.{ℕ, zero, suc, _+_, _-_, _/_, _%_, _^_, _≤_, _<_}
+-- What the code's steps come to, one law for each answer.
+use Prim.Native.Nat.{ℕ, _-_, _/_, _%_, _^_, _≤_, _<_}
 use native.Mathlib.Omega.{arith}
 use mathlib.Core.Path.{_≡_, refl, sym, ap, _∙_}
-use mathlib.Core.Bool.{Bool, true, false}
-use mathlib.Core.List.{List, [], _∷_, _++_}
+use mathlib.Core.Logic.{⊎-elim}
+use mathlib.Core.Bool.{Bool, true, false, not}
+use mathlib.Core.List.{List, [], _∷_}
 use lib.Bits.{bitXor, xor-add-and}
-use lib.Dec.{eqb}
-use borrow.Author.Tests.{eq-eqb, ne-eqb, lt-ltb, le-ltb}
+use lib.Dec.{eqb, ltb}
+use borrow.Author.Tests.{eq-eqb, ne-eqb, ltb-true, lt-ltb, le-ltb}
 use Rattle.laws.specs.Test.{both, pick}
+use Rattle.laws.specs.TestLaws.{same-test}
+use Rattle.laws.specs.Each.{Each, each-first, each-rest}
 use Rattle.laws.specs.Bit.{bit}
+use Rattle.laws.specs.BitLaws.{bit-small}
+use Rattle.laws.specs.Compared.{by-below}
+use Rattle.laws.specs.Pigeonhole.{Injects, each-taken}
 use Rattle.words.specs.Placed.{row}
 use Rattle.arrangements.specs.Arrangement.{at}
-use Rattle.pairs.specs.Pairs.{Pair, pair, alongRow, fromRow}
-use Rattle.pairs.proofs.PairLaws.{fromRow-split}
-use Rattle.judging.specs.Judging.{samePair, pairOfTwo}
-use Rattle.turns.specs.Turns.{marksOf, turnBy, turnAt, walkCode, Within}
+use Rattle.pairs.specs.Pairs.{Pair, pair}
+use Rattle.plain.specs.Plain.{samePair, pairOfTwo}
+use Rattle.plain.specs.Before.{rowBefore}
+use Rattle.plain.proofs.Plain.{two-rising, two-falling}
+use Rattle.plain.proofs.Before.{row-told, row-less, row-along}
+use Rattle.turns.specs.Turns.{countBy, turnBy, turnOf, turnAt, walkCode, Places}
 
 -- ---- a pair and its image
 
@@ -39,7 +47,81 @@ module _ (i j u v : ℕ) where
 
 -- ---- one pair
 
--- two numbers whose lowest bits are the same
+-- which of two pairs comes first
+module _ (a b c d : ℕ) (la : 1 ≤ a) (lb : 1 ≤ b) where
+  pub before-along : a ≡ c → ltb b d ≡ rowBefore (pair a b) (pair c d)
+  before-along e =
+      same-test (ltb b d) (rowBefore (pair a b) (pair c d)) (λ t. row-along (pair a b) (pair c d) la lb e (ltb-true b d t))
+      (λ t. ⊎-elim (λ (l : a < c). absurd (omega arith)) (λ (h : (a ≡ c) × (b < d)). lt-ltb b d (h .1)) (row-told (pair a b) (pair c d) t))
+
+  pub before-less : (a ≡ c → ⊥) → ltb a c ≡ rowBefore (pair a b) (pair c d)
+  before-less n =
+      same-test (ltb a c) (rowBefore (pair a b) (pair c d)) (λ t. row-less (pair a b) (pair c d) la lb (ltb-true a c t))
+      (λ t. ⊎-elim (λ (l : a < c). lt-ltb a c l) (λ (h : (a ≡ c) × (b < d)). absurd (n (h .0))) (row-told (pair a b) (pair c d) t))
+
+module _ (u v i j : ℕ) where
+  pub two-before-rising : u < v → (r : Bool) → r ≡ rowBefore (pair u v) (pair i j) → r ≡ rowBefore (pairOfTwo u v) (pair i j)
+  two-before-rising l r e = rw (two-rising u v l) e
+
+  pub two-before-falling : v ≤ u → (r : Bool) → r ≡ rowBefore (pair v u) (pair i j) → r ≡ rowBefore (pairOfTwo u v) (pair i j)
+  two-before-falling l r e = rw (two-falling u v l) e
+
+-- how an entry counts: where it is known
+pub count-known : (e u : ℕ) (t : Bool) → u ≡ 0 → e ≡ countBy e u t
+unfolding countBy pick
+count-known e u t h = rw h
+
+-- and where it is unknown, by the test
+module _ (e w k : ℕ) (t : Bool) (h : bit w k ≡ 0 → ⊥) where
+  count-one : t ≡ true → 1 ≡ countBy e (bit w k) t
+  unfolding countBy pick
+  count-one b = rw (eq-eqb (bit w k) 1 (omega (arith, bit-small w k)), b)
+
+  count-none : t ≡ false → 0 ≡ countBy e (bit w k) t
+  unfolding countBy pick
+  count-none b = rw (eq-eqb (bit w k) 1 (omega (arith, bit-small w k)), b)
+
+module _ (e w k i j : ℕ) (h : bit w k ≡ 0 → ⊥) where
+  -- at its own place
+  module _ (q : List ℕ) (s t : ℕ) (b : Bool) (ps : s ≡ at q i) (pt : t ≡ at q j) (is : b ≡ rowBefore (pairOfTwo s t) (pair i j)) where
+    told : rowBefore (pairOfTwo (at q i) (at q j)) (pair i j) ≡ b
+    told = sym (is ∙ rw (ps, pt))
+
+    pub source-counts : b ≡ true → 1 ≡ countBy e (bit w k) (rowBefore (pairOfTwo (at q i) (at q j)) (pair i j))
+    source-counts y = count-one e w k _ h (told ∙ y)
+
+    pub source-none : b ≡ false → 0 ≡ countBy e (bit w k) (rowBefore (pairOfTwo (at q i) (at q j)) (pair i j))
+    source-none y = count-none e w k _ h (told ∙ y)
+
+  -- as an image
+  module _ (u v : ℕ) (b : Bool) (is : b ≡ rowBefore (pairOfTwo u v) (pair i j)) where
+    pub image-none : b ≡ true → 0 ≡ countBy e (bit w k) (not (rowBefore (pairOfTwo u v) (pair i j)))
+    image-none y = count-none e w k _ h (ap not (sym is ∙ y))
+
+    pub image-counts : b ≡ false → 1 ≡ countBy e (bit w k) (not (rowBefore (pairOfTwo u v) (pair i j)))
+    image-counts y = count-one e w k _ h (ap not (sym is ∙ y))
+
+-- what a pair does
+module _ (a b i j u v : ℕ) where
+  pub turn-same : a ≡ b → 0 ≡ turnBy a b (samePair (pairOfTwo u v) (pair i j))
+  unfolding turnBy pick
+  turn-same e = rw (eq-eqb a b e)
+
+  module _ (d : a ≡ b → ⊥) where
+    pub turn-wins : a ≡ 1 → 2 ≡ turnBy a b (samePair (pairOfTwo u v) (pair i j))
+    unfolding turnBy pick
+    turn-wins e = rw (ne-eqb a b d, eq-eqb a 1 e)
+
+    module _ (z : a ≡ 1 → ⊥) (own : Bool) (s : own ≡ samePair (pairOfTwo u v) (pair i j)) where
+      pub turn-own : own ≡ true → 0 ≡ turnBy a b (samePair (pairOfTwo u v) (pair i j))
+      unfolding turnBy pick
+      turn-own e = rw (ne-eqb a b d, ne-eqb a 1 z, sym s ∙ e)
+
+      pub turn-loses : own ≡ false → 1 ≡ turnBy a b (samePair (pairOfTwo u v) (pair i j))
+      unfolding turnBy pick
+      turn-loses e = rw (ne-eqb a b d, ne-eqb a 1 z, sym s ∙ e)
+
+-- the same by a bit of each word
 low-same : (a b : ℕ) → bitXor a b % 2 ≡ 0 → a % 2 ≡ b % 2
 low-same a b h = omega (arith, xor-add-and a b)
 
@@ -47,133 +129,80 @@ same-low : (a b : ℕ) → a % 2 ≡ b % 2 → bitXor a b % 2 ≡ 0
 same-low a b h = omega (arith, xor-add-and a b)
 
 module _ (ones marks i j u v : ℕ) where
-  pub turn-same : bit ones (j - 1) ≡ bit marks (v - 1) → 0 ≡ turnBy ones marks i j u v
-  unfolding turnBy pick
-  turn-same e = rw (eq-eqb (bit ones (j - 1)) (bit marks (v - 1)) e)
-
-  pub turn-even : bitXor (ones / 2 ^ (j - 1)) (marks / 2 ^ (v - 1)) % 2 ≡ 0 → 0 ≡ turnBy ones marks i j u v
-  turn-even h = turn-same (low-same (ones / 2 ^ (j - 1)) (marks / 2 ^ (v - 1)) h)
+  pub bits-same : bitXor (ones / 2 ^ (j - 1)) (marks / 2 ^ (v - 1)) % 2 ≡ 0 → 0 ≡ turnBy (bit ones (j - 1)) (bit marks (v - 1)) (samePair (pairOfTwo u v) (pair i j))
+  bits-same h = turn-same (bit ones (j - 1)) (bit marks (v - 1)) i j u v (low-same (ones / 2 ^ (j - 1)) (marks / 2 ^ (v - 1)) h)
 
   module _ (odd : bitXor (ones / 2 ^ (j - 1)) (marks / 2 ^ (v - 1)) % 2 ≡ 0 → ⊥) where
     apart : bit ones (j - 1) ≡ bit marks (v - 1) → ⊥
     apart e = odd (same-low (ones / 2 ^ (j - 1)) (marks / 2 ^ (v - 1)) e)
 
-    pub turn-wins : bit ones (j - 1) ≡ 1 → 2 ≡ turnBy ones marks i j u v
-    unfolding turnBy pick
-    turn-wins e = rw (ne-eqb (bit ones (j - 1)) (bit marks (v - 1)) apart, eq-eqb (bit ones (j - 1)) 1 e)
+    pub bits-win : bit ones (j - 1) ≡ 1 → 2 ≡ turnBy (bit ones (j - 1)) (bit marks (v - 1)) (samePair (pairOfTwo u v) (pair i j))
+    bits-win = turn-wins (bit ones (j - 1)) (bit marks (v - 1)) i j u v apart
 
     module _ (z : bit ones (j - 1) ≡ 1 → ⊥) (own : Bool) (s : own ≡ samePair (pairOfTwo u v) (pair i j)) where
-      pub turn-own : own ≡ true → 0 ≡ turnBy ones marks i j u v
-      unfolding turnBy pick
-      turn-own e = rw (ne-eqb (bit ones (j - 1)) (bit marks (v - 1)) apart, ne-eqb (bit ones (j - 1)) 1 z, sym s ∙ e)
+      pub bits-own : own ≡ true → 0 ≡ turnBy (bit ones (j - 1)) (bit marks (v - 1)) (samePair (pairOfTwo u v) (pair i j))
+      bits-own = turn-own (bit ones (j - 1)) (bit marks (v - 1)) i j u v apart z own s
 
-      pub turn-loses : own ≡ false → 1 ≡ turnBy ones marks i j u v
-      unfolding turnBy pick
-      turn-loses e = rw (ne-eqb (bit ones (j - 1)) (bit marks (v - 1)) apart, ne-eqb (bit ones (j - 1)) 1 z, sym s ∙ e)
+      pub bits-lose : own ≡ false → 1 ≡ turnBy (bit ones (j - 1)) (bit marks (v - 1)) (samePair (pairOfTwo u v) (pair i j))
+      bits-lose = turn-loses (bit ones (j - 1)) (bit marks (v - 1)) i j u v apart z own s
 
-pub turn-is : (e w p : List ℕ) (i j u v ones marks r : ℕ) → u ≡ at p i → v ≡ at p j → ones ≡ row e i → marks ≡ marksOf e w u
-    → r ≡ turnBy ones marks i j u v → r ≡ turnAt e w p (pair i j)
+-- by the rows
+pub turn-by-rows : (ones doubts marks hidden i j u v s t a b r : ℕ) → a ≡ countBy (bit ones (j - 1)) (bit doubts (j - 1)) (rowBefore (pairOfTwo s t) (pair i j))
+    → b ≡ countBy (bit marks (v - 1)) (bit hidden (v - 1)) (not (rowBefore (pairOfTwo u v) (pair i j)))
+    → r ≡ turnBy a b (samePair (pairOfTwo u v) (pair i j)) → r ≡ turnOf ones doubts marks hidden i j u v s t
+unfolding turnOf
+turn-by-rows ones doubts marks hidden i j u v s t a b r pa pb h = h ∙ rw (pa, pb)
+
+-- and under the path
+pub turn-is : (e w p q : List ℕ) (i j u v ones doubts marks hidden r : ℕ) → u ≡ at p i → v ≡ at p j → ones ≡ row e i → doubts ≡ row w i → marks ≡ row e u → hidden ≡ row w u
+    → r ≡ turnOf ones doubts marks hidden i j u v (at q i) (at q j) → r ≡ turnAt e w p q (pair i j)
 unfolding turnAt
-turn-is e w p i j u v ones marks r pu pv po pm h = h ∙ rw (po, pm, pu, pv)
+turn-is e w p q i j u v ones doubts marks hidden r pu pv po pd pm ph h = h ∙ rw (po, pd, pm, ph, pu, pv)
 
--- ---- along a row
+-- ---- the vertices of a path and their places
 
-pub within-low : (k : ℕ) (p : List ℕ) (i : ℕ) → Within k p → 1 ≤ i → i ≤ k → 1 ≤ at p i
-within-low k p i w l h = w .low i l h
+module _ (n : ℕ) (p q : List ℕ) (h : Places n p q) where
+  pub vertex-low : (i v : ℕ) → v ≡ at p i → 1 ≤ i → i ≤ n → 1 ≤ v
+  vertex-low i v e l k = rw e (h .arranged .within .low i l k)
 
-pub within-high : (k : ℕ) (p : List ℕ) (i : ℕ) → Within k p → 1 ≤ i → i ≤ k → at p i ≤ 32
-within-high k p i w l h = w .high i l h
+  pub vertex-high : (i v : ℕ) → v ≡ at p i → 1 ≤ i → i ≤ n → v ≤ 32
+  vertex-high i v e l k = rw e (h .arranged .within .high i l k)
 
--- a vertex that was read there
-pub vertex-low : (k : ℕ) (p : List ℕ) (i v : ℕ) → Within k p → v ≡ at p i → 1 ≤ i → i ≤ k → 1 ≤ v
-vertex-low k p i v w e l h = rw e (w .low i l h)
+  -- at the first place of a pair
+  pub first-low : (i j v : ℕ) → v ≡ at p i → 1 ≤ i → i < j → j ≤ n → 1 ≤ v
+  first-low i j v e l k b = vertex-low i v e l (omega arith)
 
-pub vertex-high : (k : ℕ) (p : List ℕ) (i v : ℕ) → Within k p → v ≡ at p i → 1 ≤ i → i ≤ k → v ≤ 32
-vertex-high k p i v w e l h = rw e (w .high i l h)
+  pub first-high : (i j v : ℕ) → v ≡ at p i → 1 ≤ i → i < j → j ≤ n → v ≤ 32
+  first-high i j v e l k b = vertex-high i v e l (omega arith)
 
--- and at a place that has one after it
-pub earlier-low : (k : ℕ) (p : List ℕ) (i v : ℕ) → Within k p → v ≡ at p i → 1 ≤ i → i < k → 1 ≤ v
-earlier-low k p i v w e l h = vertex-low k p i v w e l (omega arith)
+  -- and at its second
+  pub last-low : (i j v : ℕ) → v ≡ at p j → 1 ≤ i → i < j → j ≤ n → 1 ≤ v
+  last-low i j v e l k b = vertex-low j v e (omega arith) b
 
-pub earlier-high : (k : ℕ) (p : List ℕ) (i v : ℕ) → Within k p → v ≡ at p i → 1 ≤ i → i < k → v ≤ 32
-earlier-high k p i v w e l h = vertex-high k p i v w e l (omega arith)
+  pub last-high : (i j v : ℕ) → v ≡ at p j → 1 ≤ i → i < j → j ≤ n → v ≤ 32
+  last-high i j v e l k b = vertex-high j v e (omega arith) b
 
-module _ (t : Pair → ℕ) where
-  code-first : (k : Pair) (ks : List Pair) → (t k ≡ 0 → ⊥) → walkCode t (k ∷ ks) ≡ t k
-  unfolding walkCode pick
-  code-first k ks h = rw (ne-eqb (t k) 0 h)
+  pub reorders : Injects n n (at p)
+  reorders = record { low = h .arranged .within .low; high = h .arranged .below; once = h .arranged .once }
 
-  pub code-rest : (k : Pair) (ks : List Pair) → t k ≡ 0 → walkCode t (k ∷ ks) ≡ walkCode t ks
-  unfolding walkCode pick
-  code-rest k ks h = rw (eq-eqb (t k) 0 h)
+  -- each vertex of 1..n has a place
+  pub place-low : (v : ℕ) → 1 ≤ v → v ≤ n → 1 ≤ at q v
+  place-low v l k =
+      by-below 0 (at q v) (λ (some : 0 < at q v). some)
+      (λ (none : at q v ≤ 0). absurd (each-taken n (at p) reorders v l k (λ i li hi e. omega (arith, h .undone i li hi, ap (at q) e))))
 
-  along-more : (n i j : ℕ) → j ≤ n → alongRow i j (n + 1 - j) ≡ pair i j ∷ alongRow i (j + 1) (n + 1 - (j + 1))
-  unfolding alongRow
-  along-more n i j h =
-      let s : n + 1 - j ≡ suc (n + 1 - (j + 1)) = omega arith in
-      let e : j + 1 ≡ suc j = omega arith in
-      rw (s, e)
+  pub place-high : (v : ℕ) → 1 ≤ v → v ≤ n → at q v ≤ n
+  place-high v l k =
+      by-below n (at q v) (λ (past : n < at q v). absurd (each-taken n (at p) reorders v l k (λ i li hi e. omega (arith, h .undone i li hi, ap (at q) e)))) (λ (within : at q v ≤ n). within)
 
-  module _ (n i j : ℕ) (whole : ℕ) (left : walkCode t (alongRow i j (n + 1 - j)) ≡ whole) where
-    pub row-goes-on : (c : ℕ) → j ≤ n → c ≡ t (pair i j) → c ≡ 0 → walkCode t (alongRow i (j + 1) (n + 1 - (j + 1))) ≡ whole
-    row-goes-on c h e z = sym (code-rest (pair i j) (alongRow i (j + 1) (n + 1 - (j + 1))) (sym e ∙ z)) ∙ ap (walkCode t) (sym (along-more n i j h)) ∙ left
+  pub place-first : (i j : ℕ) → 1 ≤ i → i < j → j ≤ n → 1 ≤ at q i
+  place-first i j l k b = place-low i l (omega arith)
 
-    pub row-ends : (c : ℕ) → j ≤ n → c ≡ t (pair i j) → (c ≡ 0 → ⊥) → c ≡ whole
-    row-ends c h e z =
-        e ∙ sym (code-first (pair i j) (alongRow i (j + 1) (n + 1 - (j + 1))) (λ q. z (e ∙ q))) ∙ ap (walkCode t) (sym (along-more n i j h)) ∙ left
+  pub place-last : (i j : ℕ) → 1 ≤ i → i < j → j ≤ n → 1 ≤ at q j
+  place-last i j l k b = place-low j (omega arith) b
 
-    pub row-over : n < j → 0 ≡ whole
-    unfolding alongRow walkCode
-    row-over h = let s : n + 1 - j ≡ 0 = omega arith in rw s at left
-
-  -- ---- along rows
-
-  code-joined : (xs ys : List Pair) → walkCode t xs ≡ 0 → walkCode t (xs ++ ys) ≡ walkCode t ys
-  unfolding walkCode pick
-  code-joined [] ys h = refl
-  code-joined (k ∷ xs) ys h = go (code-joined xs ys) (t k) refl
-    where
-      go : (walkCode t xs ≡ 0 → walkCode t (xs ++ ys) ≡ walkCode t ys) → (c : ℕ) → t k ≡ c → walkCode t (k ∷ xs ++ ys) ≡ walkCode t ys
-      go rest zero e = code-rest k (xs ++ ys) e ∙ rest (sym (code-rest k xs e) ∙ h)
-      go rest (suc c) e = absurd (omega (arith, sym e ∙ sym (code-first k xs (λ (z : t k ≡ 0). omega (arith, sym e ∙ z))) ∙ h))
-
-  code-settled : (xs ys : List Pair) → (walkCode t xs ≡ 0 → ⊥) → walkCode t (xs ++ ys) ≡ walkCode t xs
-  unfolding walkCode pick
-  code-settled [] ys h = absurd (h refl)
-  code-settled (k ∷ xs) ys h = go (code-settled xs ys) (t k) refl
-    where
-      go : ((walkCode t xs ≡ 0 → ⊥) → walkCode t (xs ++ ys) ≡ walkCode t xs) → (c : ℕ) → t k ≡ c → walkCode t (k ∷ xs ++ ys) ≡ walkCode t (k ∷ xs)
-      go rest zero e = code-rest k (xs ++ ys) e ∙ rest (λ z. h (code-rest k xs e ∙ z)) ∙ sym (code-rest k xs e)
-      go rest (suc c) e = let z : t k ≡ 0 → ⊥ = λ q. omega (arith, sym e ∙ q) in code-first k (xs ++ ys) z ∙ sym (code-first k xs z)
-
-  pub row-and-rest : (n i : ℕ) → i < n → fromRow i (n - i) ≡ alongRow i (i + 1) (n + 1 - (i + 1)) ++ fromRow (i + 1) (n - (i + 1))
-  row-and-rest n i h =
-      let a : n + 1 - (i + 1) ≡ n - i = omega arith in
-      let b : i + 1 ≡ suc i = omega arith in
-      let c : n - suc i ≡ n - i - 1 = omega arith in
-      rw (a, b, c) (fromRow-split i (n - i))
-
-  module _ (n i : ℕ) (whole : ℕ) (left : walkCode t (fromRow i (n - i)) ≡ whole) where
-    pub rows-go-on : (c : ℕ) → i < n → c ≡ walkCode t (alongRow i (i + 1) (n + 1 - (i + 1))) → c ≡ 0 → walkCode t (fromRow (i + 1) (n - (i + 1))) ≡ whole
-    rows-go-on c h e z =
-        sym (code-joined (alongRow i (i + 1) (n + 1 - (i + 1))) (fromRow (i + 1) (n - (i + 1))) (sym e ∙ z)) ∙ ap (walkCode t) (sym (row-and-rest n i h)) ∙ left
-
-    pub rows-end : (c : ℕ) → i < n → c ≡ walkCode t (alongRow i (i + 1) (n + 1 - (i + 1))) → (c ≡ 0 → ⊥) → c ≡ whole
-    rows-end c h e z =
-        e ∙ sym (code-settled (alongRow i (i + 1) (n + 1 - (i + 1))) (fromRow (i + 1) (n - (i + 1))) (λ q. z (e ∙ q))) ∙ ap (walkCode t) (sym (row-and-rest n i h)) ∙ left
-
-    pub rows-over : n ≤ i → 0 ≡ whole
-    unfolding fromRow walkCode
-    rows-over h = let s : n - i ≡ 0 = omega arith in rw s at left
-
-  -- the second row, and the rows after it
-
-  pub second-none : (n : ℕ) → n < 3 → 0 ≡ walkCode t (fromRow 2 (n - 2))
-  second-none n h = rows-over n 2 (walkCode t (fromRow 2 (n - 2))) refl (omega arith)
-
-  module _ (n c : ℕ) (h : 3 ≤ n) (e : c ≡ walkCode t (alongRow 2 3 (n + 1 - 3))) where
-    pub second-ends : (c ≡ 0 → ⊥) → c ≡ walkCode t (fromRow 2 (n - 2))
-    second-ends z = rows-end n 2 (walkCode t (fromRow 2 (n - 2))) refl c (omega arith) e z
-
-    pub second-goes-on : c ≡ 0 → (r : ℕ) → r ≡ walkCode t (fromRow 3 (n - 3)) → r ≡ walkCode t (fromRow 2 (n - 2))
-    second-goes-on z r q = q ∙ rows-go-on n 2 (walkCode t (fromRow 2 (n - 2))) refl c (omega arith) e z
+-- turns that are the same along the pairs come to the same
+pub walk-alike : (t s : Pair → ℕ) (ks : List Pair) → Each (λ k. t k ≡ s k) ks → walkCode t ks ≡ walkCode s ks
+unfolding walkCode
+walk-alike t s [] h = refl
+walk-alike t s (k ∷ ks) h = rw (each-first (λ j. t j ≡ s j) h, walk-alike t s ks (each-rest (λ j. t j ≡ s j) h))

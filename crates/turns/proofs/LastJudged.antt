@@ -1,33 +1,45 @@
--- How a beginning is judged, by the pairs that come with its last vertex.
+-- How a beginning is judged by the pairs that come with its last vertex.
 use Prim.Native.Nat.{ℕ, suc, _-_, _≤_, _<_}
 use native.Mathlib.Omega.{arith}
 use mathlib.Core.Path.{_≡_, refl, sym, ap, ap₂, _∙_}
 use mathlib.Core.Logic.{_≢_}
 use mathlib.Core.List.{List, [], _∷_, _++_}
 use lib.Dec.{eqb}
-use lib.ListN.{length, getD, take, List·getD-append}
-use lib.Seq.{getD-take, getD-at}
+use lib.ListN.{length, List·getD-append}
+use lib.Seq.{getD-at}
 use Rattle.laws.specs.Test.{pick}
-use Rattle.laws.specs.Each.{Each, each-first, each-rest}
-use Rattle.walk.specs.Walk.{Turn, wins, goes-on, loses, Outcome, won, lost, still-open, ending, turn, walk}
+use Rattle.laws.specs.Compared.{by-below}
+use Rattle.walk.specs.Walk.{Outcome, won, lost, still-open, walk}
+use Rattle.walk.specs.Free.{free}
+use Rattle.beginnings.specs.Beginning.{Beginning}
 use Rattle.beginnings.specs.Search.{Judgement}
 use Rattle.beginnings.specs.Search
+use Rattle.beginnings.proofs.Follows.{length-more}
+use Rattle.schemes.specs.Judging.{judgementOf, judging}
+use Rattle.schemes.specs.Judging
+use Rattle.schemes.specs.Free.{placeOf, source, freely}
+use Rattle.schemes.proofs.Inverse.{inverse-at}
+use Rattle.schemes.proofs.Judgements.{of-open}
+use Rattle.schemes.proofs.Free.{free-next}
+use Rattle.plain.specs.Plain.{image, judgedOn, byRows}
+use Rattle.plain.specs.Before.{rowBefore}
+use Rattle.plain.proofs.Plain.{rows-lawful, judgedOn-short, judgedOn-whole}
+use Rattle.plain.proofs.Before.{rows-ordered, judgedOn-more, judgedOn-last}
 use Rattle.graph.specs.declared.Graph.{Graph}
+use Rattle.rows.specs.Rows.{blockOf}
 use Rattle.graph.specs.WellFormed.{WellFormed}
+use Rattle.words.specs.Placed.{row}
 use Rattle.arrangements.specs.Arrangement.{at}
-use Rattle.pairs.specs.Pairs.{Pair, pair, fromRow}
+use Rattle.pairs.specs.Pairs.{Pair, pair, alongRow, fromRow, pairs}
 use Rattle.graph.specs.Counts.{entryAt}
 use Rattle.pairs.proofs.PairLaws.{fromRow-given}
-use Rattle.judging.specs.Judging.{samePair, image, judged, judgementOf}
-use Rattle.turns.specs.Turns.{codeOf, turnAt, walkCode}
-use Rattle.turns.proofs.TurnCodes.{step-codes, turn-codes}
-use Rattle.judging.proofs.Judgements.{one-open, rowTurn, short-turn, full-turn}
+use Rattle.judging.specs.Judging.{judged}
+use Rattle.turns.specs.Turns.{turnOf, turnAt, walkCode, Places}
+use Rattle.turns.proofs.TurnCodes.{codeOf, turn-code}
+use Rattle.turns.proofs.Walks.{outcomeCode, ending-code, moveOf, free-code, r, places-inverse}
 
-empty : (b : List ℕ) → length b ≡ 0 → b ≡ []
-empty [] e = refl
-empty (v ∷ b) e = absurd (omega arith)
+-- ---- a judgement by number
 
--- a judgement and an outcome by number
 unfoldable pub judgementCode : Judgement → ℕ
 judgementCode Search.«open» = 0
 judgementCode Search.lost = 1
@@ -56,86 +68,81 @@ pub code-not-won : (j : Judgement) → judgementCode j ≢ 2 → j ≢ Search.wo
 unfolding judgementCode
 code-not-won j a e = a (rw e)
 
-outcomeCode : Outcome Pair → ℕ
-outcomeCode still-open = 0
-outcomeCode lost = 1
-outcomeCode (won k) = 2
-
 judgement-outcome : (o : Outcome Pair) → judgementCode (judgementOf o) ≡ outcomeCode o
 unfolding judgementCode outcomeCode judgementOf
 judgement-outcome (won k) = refl
 judgement-outcome lost = refl
 judgement-outcome still-open = refl
 
--- a turn, and then the rest
-ending-code : (t : Turn) (k : Pair) (rest : Outcome Pair) → outcomeCode (ending t k rest) ≡ pick (eqb (codeOf t) 0) (outcomeCode rest) (codeOf t)
-unfolding outcomeCode ending codeOf pick
-ending-code wins k rest = refl
-ending-code goes-on k rest = refl
-ending-code loses k rest = refl
+-- ---- one vertex
 
--- a walk by number
-walk-code : (v : Pair → ℕ) (img : Pair → Pair) (t : Pair → ℕ) (ks : List Pair) → Each (λ k. codeOf (turn samePair v img k) ≡ t k) ks
-    → outcomeCode (walk samePair v img ks) ≡ walkCode t ks
-unfolding walk walkCode outcomeCode
-walk-code v img t [] h = refl
-walk-code v img t (k ∷ ks) h =
-    ending-code (turn samePair v img k) k (walk samePair v img ks)
-    ∙ ap₂ (λ (c r : ℕ). pick (eqb c 0) r c) (each-first (λ j. codeOf (turn samePair v img j) ≡ t j) h)
-    (walk-code v img t ks (each-rest (λ j. codeOf (turn samePair v img j) ≡ t j) h))
+-- alone it is open: it has no pair
+pub one-open : (g : Graph) (v : ℕ) → 1 ≤ g .order → judged g (v ∷ []) ≡ Search.«open»
+unfolding Judging.judged judging judgementOf walk alongRow pairs fromRow
+one-open g v low = rw (none (g .order) low)
+  where
+    none : (n : ℕ) → 1 ≤ n → judgedOn n 1 ≡ []
+    none n low = by-below 1 n (λ (h : 1 < n). judgedOn-short n 1 h) (λ (h : n ≤ 1). let e : n ≡ 1 = omega arith in rw e (judgedOn-whole 1))
 
-module _ (g : Graph) (formed : WellFormed g) (b path : List ℕ) (v : ℕ) (same : take (suc (length b)) path ≡ b ++ (v ∷ [])) where
-  -- the path has b's vertices, then v
-  at-path : (i : ℕ) → 1 ≤ i → i ≤ suc (length b) → at path i ≡ at (b ++ (v ∷ [])) i
-  at-path i l h = sym (getD-take (suc (length b)) path (i - 1) 0 (omega arith)) ∙ ap (λ (p : List ℕ). getD p (i - 1) 0) same
+-- ---- one vertex more
 
-  turn-path : (k : Pair) → 1 ≤ k .row → k .row ≤ suc (length b) → 1 ≤ k .column → k .column ≤ suc (length b)
-      → codeOf (turn samePair (entryAt g) (image (b ++ (v ∷ []))) k) ≡ turnAt (g .edges) (g .unknowns) path k
-  unfolding turnAt
-  turn-path k a c d e = rw (at-path (k .row) a c, at-path (k .column) d e) (turn-codes g formed (b ++ (v ∷ [])) k)
+module _ (g : Graph) (formed : WellFormed g) (b : List ℕ) (v : ℕ) (begun : 1 ≤ length b) (begins : Beginning (g .order) (blockOf (g .starts)) b) (more : Beginning (g .order) (blockOf (g .starts)) (b ++ v ∷ []))
+    (so-far : judged g b ≡ Search.«open») where
+  abbrev n : ℕ
+  n = g .order
 
-  pub at-last : at path (suc (length b)) ≡ v
-  at-last =
-      let place : suc (length b) - 1 ≡ length b = omega arith in
-      at-path (suc (length b)) (omega arith) (omega arith) ∙ rw place (getD-at b v [] 0 (length b) refl)
+  abbrev longer : List ℕ
+  longer = b ++ v ∷ []
 
-  -- the pair that comes with v
-  abbrev pub here : Pair
-  here = pair 1 (suc (length b))
+  -- the place in it of a vertex, 0 for one that it lacks
+  abbrev pub placeIn : ℕ → ℕ
+  placeIn u = placeOf (at (b ++ v ∷ [])) (length (b ++ v ∷ [])) u
 
-  -- and what it does
+  -- what the pair (1, k) does that comes with v
   abbrev pub hereTurn : ℕ
-  hereTurn = turnAt (g .edges) (g .unknowns) path here
+  hereTurn =
+      turnOf (row (g .edges) 1) (row (g .unknowns) 1) (row (g .edges) (at b 1)) (row (g .unknowns) (at b 1)) 1 (suc (length b)) (at b 1) v (placeIn 1) (placeIn (suc (length b)))
 
-  row-path : 1 ≤ length b → codeOf (rowTurn g b v) ≡ hereTurn
+  first-is : at (b ++ v ∷ []) 1 ≡ at b 1
+  first-is = List·getD-append b (v ∷ []) 0 0 begun
+
+  last-is : at (b ++ v ∷ []) (suc (length b)) ≡ v
+  last-is = let place : suc (length b) - 1 ≡ length b = omega arith in rw place (getD-at b v [] 0 (length b) refl)
+
+  here-code : codeOf (moveOf (entryAt g) (image (b ++ v ∷ [])) (source (byRows (g .order)) (b ++ v ∷ [])) (pair 1 (suc (length b)))) ≡ hereTurn
+  here-code =
+      turn-code g formed 1 (suc (length b)) (at longer 1) (at longer (suc (length b))) (placeIn 1) (placeIn (suc (length b)))
+      ∙ ap₂ (λ (x y : ℕ). turnOf (row (g .edges) 1) (row (g .unknowns) 1) (row (g .edges) x) (row (g .unknowns) x) 1 (suc (length b)) x y (placeIn 1) (placeIn (suc (length b)))) first-is last-is
+
+  -- the pair (1, k), and then the pairs that come after it
+  by-next : (rest : List Pair) → judgedOn (g .order) (suc (length b)) ≡ judgedOn (g .order) (length b) ++ (pair 1 (suc (length b)) ∷ rest) → (r : ℕ)
+      → outcomeCode (freely (byRows (g .order)) rowBefore (entryAt g) (b ++ v ∷ []) rest) ≡ r → judgementCode (judged g (b ++ v ∷ [])) ≡ pick (eqb hereTurn 0) r hereTurn
+  unfolding Judging.judged free
+  by-next rest e r c =
+      judgement-outcome (judging (byRows n) (entryAt g) longer)
+      ∙ ap outcomeCode (free-next (rows-lawful n) (rows-ordered n) (blockOf (g .starts)) (entryAt g) b v (pair 1 (suc (length b)) ∷ rest) begins more (ap (judgedOn n) (length-more b v) ∙ e) (of-open (judging (byRows n) (entryAt g) b) so-far))
+      ∙ ending-code (moveOf (entryAt g) (image longer) (source (byRows n) longer) (pair 1 (suc (length b)))) (pair 1 (suc (length b))) (freely (byRows n) rowBefore (entryAt g) longer rest)
+      ∙ ap₂ (λ (c x : ℕ). pick (eqb c 0) x c) here-code c
+
+  -- where places are left that pair decides alone
+  pub short-code : suc (length b) < g .order → judgementCode (judged g (b ++ v ∷ [])) ≡ pick (eqb hereTurn 0) 0 hereTurn
+  unfolding outcomeCode free
+  short-code h = by-next [] (judgedOn-more n (length b) begun h) 0 refl
+
+  -- else the rows after the first come after it, where q has the places of its vertices
+  pub full-code : suc (length b) ≡ g .order → (q : List ℕ) → Places (g .order) (b ++ v ∷ []) q
+      → judgementCode (judged g (b ++ v ∷ [])) ≡ pick (eqb hereTurn 0) (walkCode (turnAt (g .edges) (g .unknowns) (b ++ v ∷ []) q) (fromRow 2 (g .order - 2))) hereTurn
   unfolding turnAt
-  row-path l =
-      let first : at path 1 ≡ at b 1 = at-path 1 (omega arith) (omega arith) ∙ List·getD-append b (v ∷ []) 0 0 l in
-      rw (at-last, first) (step-codes g formed 1 (suc (length b)) (at b 1) v)
-
-  -- ---- how the beginning that ends with v is judged, where the one before it is open
-
-  -- at place 1 no pair comes with v
-  pub first-open : length b ≡ 0 → 1 ≤ g .order → judged g (b ++ (v ∷ [])) ≡ Search.«open»
-  first-open e h = rw (empty b e) (one-open g v h)
-
-  module _ (l : 1 ≤ length b) (so-far : judged g b ≡ Search.«open») where
-    by-turn : (rest : Outcome Pair) (r : ℕ) → outcomeCode rest ≡ r
-        → judgementCode (judgementOf (ending (rowTurn g b v) here rest)) ≡ pick (eqb hereTurn 0) r hereTurn
-    by-turn rest r e =
-        judgement-outcome (ending (rowTurn g b v) here rest) ∙ ending-code (rowTurn g b v) here rest
-        ∙ ap₂ (λ (c x : ℕ). pick (eqb c 0) x c) (row-path l) e
-
-    -- where places are left that pair decides alone
-    pub short-code : suc (length b) < g .order → judgementCode (judged g (b ++ (v ∷ []))) ≡ pick (eqb hereTurn 0) 0 hereTurn
-    unfolding outcomeCode
-    short-code k = ap judgementCode (short-turn g formed b v l so-far k) ∙ by-turn still-open 0 refl
-
-    -- else the rows after the first come after it
-    pub full-code : suc (length b) ≡ g .order
-        → judgementCode (judged g (b ++ (v ∷ []))) ≡ pick (eqb hereTurn 0) (walkCode (turnAt (g .edges) (g .unknowns) path) (fromRow 2 (g .order - 2))) hereTurn
-    full-code k =
-        ap judgementCode (full-turn g formed b v l so-far k)
-        ∙ by-turn (walk samePair (entryAt g) (image (b ++ (v ∷ []))) (fromRow 2 (g .order - 2))) (walkCode (turnAt (g .edges) (g .unknowns) path) (fromRow 2 (g .order - 2)))
-        (walk-code (entryAt g) (image (b ++ (v ∷ []))) (turnAt (g .edges) (g .unknowns) path) (fromRow 2 (g .order - 2))
-        (λ j m. let w = fromRow-given 2 (g .order - 2) j m in turn-path j (omega arith) (omega arith) (omega arith) (omega arith)))
+  full-code h q places =
+      by-next (fromRow 2 (n - 2)) (judgedOn-last n (length b) begun h) (walkCode (turnAt (g .edges) (g .unknowns) longer q) (fromRow 2 (n - 2)))
+      (free-code (entryAt g) (image longer) (source (byRows n) longer) (turnAt (g .edges) (g .unknowns) longer q) (fromRow 2 (n - 2))
+      (λ k m.
+      let w = fromRow-given 2 (n - 2) k m in
+      turn-code g formed (k .row) (k .column) (at longer (k .row)) (at longer (k .column)) (placeIn (k .row)) (placeIn (k .column))
+      ∙ ap₂ (λ (s t : ℕ). turnOf (row (g .edges) (k .row)) (row (g .unknowns) (k .row)) (row (g .edges) (at longer (k .row))) (row (g .unknowns) (at longer (k .row))) (k .row) (k .column) (at longer (k .row)) (at longer (k .column)) s t)
+      (placed (k .row) (omega arith) (omega arith)) (placed (k .column) (omega arith) (omega arith))))
+    where
+      placed : (u : ℕ) → 1 ≤ u → u ≤ g .order → placeIn u ≡ at q u
+      placed u l k =
+          ap (λ (m : ℕ). placeOf (at (b ++ v ∷ [])) m u) (length-more b v ∙ h)
+          ∙ sym (inverse-at (g .order) (b ++ v ∷ []) (r g formed (b ++ v ∷ []) q places) u l k) ∙ places-inverse g formed (b ++ v ∷ []) q places u l k

@@ -1,4 +1,5 @@
+pub mod Ones
 pub mod CodeTurns
-pub mod AlikeRows
 pub mod TurnCodes
+pub mod Walks
 pub mod LastJudged

@@ -2,40 +2,45 @@
 use Prim.Native.Nat.{ℕ, _-_, _≤_, _<_}
 use mathlib.Core.Path.{_≡_}
 use mathlib.Core.Logic.{_≢_}
+use mathlib.Core.Bool.{Bool, not}
 use mathlib.Core.List.{List, [], _∷_}
-use lib.Bits.{bitOr}
 use lib.Dec.{eqb}
 use Rattle.laws.specs.Test.{pick}
 use Rattle.laws.specs.Bit.{bit}
-use Rattle.walk.specs.Walk.{Turn, wins, goes-on, loses}
 use Rattle.words.specs.Placed.{row}
 use Rattle.arrangements.specs.Arrangement.{at}
 use Rattle.pairs.specs.Pairs.{Pair, pair}
-use Rattle.judging.specs.Judging.{samePair, pairOfTwo}
-
-unfoldable pub codeOf : Turn → ℕ
-codeOf goes-on = 0
-codeOf loses = 1
-codeOf wins = 2
+use Rattle.plain.specs.Plain.{samePair, pairOfTwo}
+use Rattle.plain.specs.Before.{rowBefore}
 
 -- all 32 marks
 abbrev pub allMarks : ℕ
 allMarks = 4294967295
 
--- the entries of row u that are not 0, as a mask
-abbrev pub marksOf : List ℕ → List ℕ → ℕ → ℕ
-marksOf edges unknowns u = bitOr (row edges u) (row unknowns u)
+-- 1 where an entry counts as an edge, by its bits: where it is unknown, the test decides
+unfoldable pub countBy : (edge unknown : ℕ) → Bool → ℕ
+countBy edge unknown test = pick (eqb unknown 1) (pick test 1 0) edge
 
--- what the pair (i, j) does where u and v stand there, by the edges of row i and the marks of row u
-unfoldable pub turnBy : ℕ → ℕ → ℕ → ℕ → ℕ → ℕ → ℕ
-turnBy ones marks i j u v =
-    pick (eqb (bit ones (j - 1)) (bit marks (v - 1))) 0
-    (pick (eqb (bit ones (j - 1)) 1) 2 (pick (samePair (pairOfTwo u v) (pair i j)) 0 1))
+-- what a pair does where its entry counts as a and that of its image as b
+unfoldable pub turnBy : ℕ → ℕ → Bool → ℕ
+turnBy a b own = pick (eqb a b) 0 (pick (eqb a 1) 2 (pick own 0 1))
 
--- what pair k does under the path p
-unfoldable pub turnAt : List ℕ → List ℕ → List ℕ → Pair → ℕ
-turnAt edges unknowns p k =
-    turnBy (row edges (k .row)) (marksOf edges unknowns (at p (k .row))) (k .row) (k .column) (at p (k .row)) (at p (k .column))
+-- what the pair (i, j) does where u and v stand there, and it is the image of the pair of s and t, by the edges and unknowns of row i
+-- and of row u: an unknown entry counts as an edge where that pair comes before (i, j), and at the image where this does not come
+-- before (i, j)
+unfoldable pub turnOf : (ones doubts marks hidden i j u v s t : ℕ) → ℕ
+turnOf ones doubts marks hidden i j u v s t =
+    turnBy (countBy (bit ones (j - 1)) (bit doubts (j - 1)) (rowBefore (pairOfTwo s t) (pair i j)))
+    (countBy (bit marks (v - 1)) (bit hidden (v - 1)) (not (rowBefore (pairOfTwo u v) (pair i j))))
+    (samePair (pairOfTwo u v) (pair i j))
+
+-- what pair k does under the path p, where q has the place of each vertex
+unfoldable pub turnAt : List ℕ → List ℕ → List ℕ → List ℕ → Pair → ℕ
+turnAt edges unknowns p q k =
+    turnOf (row edges (k .row)) (row unknowns (k .row)) (row edges (at p (k .row))) (row unknowns (at p (k .row)))
+    (k .row) (k .column) (at p (k .row)) (at p (k .column)) (at q (k .row)) (at q (k .column))
+
+-- ---- along pairs
 
 -- the first of the pairs that does not go on, or 0
 unfoldable pub walkCode : (Pair → ℕ) → List Pair → ℕ
@@ -62,10 +67,7 @@ pub record Arranged (n : ℕ) (p : List ℕ) : Type 0 where
   pub below : (i : ℕ) → 1 ≤ i → i ≤ n → at p i ≤ n
   pub once : (i j : ℕ) → 1 ≤ j → j < i → i ≤ n → at p i ≢ at p j
 
--- the mask has the vertices of the places after i
-pub record Later (n i : ℕ) (p : List ℕ) (mask : ℕ) : Type 0 where
-  pub has : (j : ℕ) → i < j → j ≤ n → bit mask (at p j - 1) ≡ 1
-
--- each edge bit of a place after i is as each mark of a vertex in the mask
-pub record Alike (n i ones marks mask : ℕ) : Type 0 where
-  pub same : (j k : ℕ) → i < j → j ≤ n → bit mask k ≡ 1 → bit ones (j - 1) ≡ bit marks k
+-- q has the place of each of them
+pub record Places (n : ℕ) (p q : List ℕ) : Type 0 where
+  pub arranged : Arranged n p
+  pub undone : (i : ℕ) → 1 ≤ i → i ≤ n → at q (at p i) ≡ i

@@ -1,18 +1,15 @@
--- A drawing breaks the written clause exactly where it breaks the literals; so the written clause of a won walk is sound.
-use Prim.Native.Nat.{ℕ, zero, suc, _≤_}
+-- A drawing breaks the written clause exactly where it breaks the literals.
+use Prim.Native.Nat.{ℕ, zero, suc}
 use native.Mathlib.Omega.{arith}
-use mathlib.Core.Path.{_≡_, ap, _∙_}
+use mathlib.Core.Path.{ap, _∙_}
 use mathlib.Core.Logic.{_↔_}
 use mathlib.Core.Bool.{Bool}
 use mathlib.Core.List.{List, List·Memᴰ}
 use Rattle.laws.specs.Each.{Each}
-use Rattle.walk.specs.Walk.{Tells, walk, won}
-use Rattle.walk.specs.Clause.{Literal, absent, present, literals, pairIn, signed, Numbered, clause, Written, FalseIn, Breaks, FalseAt, BreaksClause, Consistent}
-use Rattle.walk.specs.Earlier.{Earlier, copy}
+use Rattle.walk.specs.Walk.{Tells}
+use Rattle.walk.specs.Clause.{Literal, absent, present, pairIn, signed, Numbered, clause, Written, FalseIn, Breaks, FalseAt, BreaksClause, Consistent}
 use Rattle.walk.proofs.Number.{one-pair, has-number}
 use Rattle.walk.proofs.Clause.{literal-stands, clause-written}
-use Rattle.walk.proofs.Literals.{literals-consistent, literals-inside}
-use Rattle.walk.proofs.Sound.{won-sound}
 
 -- a literal is false exactly where its number is
 signed-false : {P : Type 0} (ks : List P) (H : P → ℕ) (l : Literal P) (m : ℕ) → Numbered ks (pairIn l) m → FalseIn H l ↔ FalseAt ks H (signed l m)
@@ -36,13 +33,6 @@ module _ {P : Type 0} {same : P → P → Bool} (tells : Tells same) where
           let (n, at) = has-number (inside l m) in
           signed-false ks H l n at .1 (b (signed l n) (literal-stands tells lits ks l n consistent m at))
 
-  module _ (v : P → ℕ) (img : P → P) (ks : List P) (closed : Each (λ k. List·Memᴰ (img k) ks) ks) where
-    -- the written clause of a walk along pairs whose images are among them
-    pub walk-clause-breaks : (H : P → ℕ) → Breaks (literals same v img ks) H ↔ BreaksClause ks (clause same (literals same v img ks) ks) H
-    walk-clause-breaks H =
-        clause-breaks (literals same v img ks) ks H (literals-consistent tells v img ks) (literals-inside same v img ks closed)
-
-    -- where the walk is won and H, with entries 0 and 1, breaks the written clause, H's copy is earlier than H
-    pub clause-sound : (k : P) → walk same v img ks ≡ won k → (H : P → ℕ) → Each (λ j. H j ≤ 1) ks
-        → BreaksClause ks (clause same (literals same v img ks) ks) H → Earlier ks (copy img H) H
-    clause-sound k e H h b = won-sound tells v img ks k e H h (λ j m. h (img j) (closed j m)) (walk-clause-breaks H .1 b)
+-- literals that are all false in one drawing are of no pair with and without "not"
+pub false-consistent : {P : Type 0} (lits : List (Literal P)) (v : P → ℕ) → Breaks lits v → Consistent lits
+false-consistent lits v b k m i = omega (arith, b (absent k) m, b (present k) i)

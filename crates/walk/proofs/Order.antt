@@ -3,9 +3,9 @@
 use Prim.Native.Nat.{ℕ, _<_, _≤_}
 use native.Mathlib.Omega.{arith}
 use native.Mathlib.Decide.{ℕ-discrete}
-use mathlib.Core.Path.{_≡_, refl, sym, _∙_, ap}
+use mathlib.Core.Path.{_≡_, refl, sym, _∙_, ap, subst}
 use mathlib.Core.Logic.{_↔_, _⊎_, inl, inr}
-use mathlib.Core.List.{List, [], _∷_, _++_, map}
+use mathlib.Core.List.{List, [], _∷_, _++_, map, List·Memᴰ, List·Memᴰ·head, Memᴰ·append-left, Memᴰ·append-right}
 use Rattle.laws.specs.Each.{Each, each-none, each-cons, each-first, each-rest}
 use Rattle.walk.specs.Earlier.{Earlier, LexLess}
 
@@ -137,3 +137,24 @@ earlier-lexicographic {P} x y (k ∷ ks) h g =
         → Earlier (k ∷ ks) x y
     from f (inl a) = earlier-here x y (omega (arith, gy)) (omega (arith, gy))
     from f (inr a) = earlier-later x y (a .0) (f (a .1))
+
+-- ---- drawings that agree
+
+-- drawings that agree along ks with two of which one is earlier are so too
+pub earlier-alike : {P : Type 0} (ks : List P) (x y z w : P → ℕ) → Each (λ k. z k ≡ x k) ks → Each (λ k. w k ≡ y k) ks → Earlier ks x y → Earlier ks z w
+earlier-alike {P} ks x y z w a b e =
+    record {
+      before = e .before;
+      pair = e .pair;
+      after = e .after;
+      split = e .split;
+      agree = λ k m. a k (first k m) ∙ e .agree k m ∙ sym (b k (first k m));
+      zero-here = a (e .pair) here ∙ e .zero-here;
+      one-there = b (e .pair) here ∙ e .one-there;
+    }
+  where
+    first : (k : P) → List·Memᴰ k (e .before) → List·Memᴰ k ks
+    first k m = subst (λ l. List·Memᴰ k l) (sym (e .split)) (Memᴰ·append-left (e .pair ∷ e .after) m)
+
+    here : List·Memᴰ (e .pair) ks
+    here = subst (λ l. List·Memᴰ (e .pair) l) (sym (e .split)) (Memᴰ·append-right (e .before) (List·Memᴰ·head refl))

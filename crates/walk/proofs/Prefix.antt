@@ -1,43 +1,38 @@
--- The walk along two lists joined, and what a walk depends on.
+-- The walk along two lists joined, and what it depends on.
 use Prim.Native.Nat.{ℕ}
-use mathlib.Core.Path.{_≡_, refl, ap}
+use mathlib.Core.Path.{_≡_, refl}
 use mathlib.Core.Bool.{Bool}
 use mathlib.Core.List.{List, [], _∷_, _++_}
 use Rattle.laws.specs.Each.{Each, each-first, each-rest}
-use Rattle.walk.specs.Walk.{Turn, wins, goes-on, loses, turn, ending, walk, and-then}
-use Rattle.walk.specs.Clause.{literals}
-
--- the same entries and the same image at k
-pub record Alike {P : Type 0} (v w : P → ℕ) (img jmg : P → P) (k : P) : Type 0 where
-  pub image : img k ≡ jmg k
-  pub here : v k ≡ w k
-  pub there : v (img k) ≡ w (jmg k)
+use Rattle.walk.specs.Walk.{and-then, Move, skips, wins, goes-on, drives-zero, drives-one, loses, moveAt, ending, driven, walk}
 
 module _ {P : Type 0} (same : P → P → Bool) where
-  module _ (v : P → ℕ) (img : P → P) where
-    -- the walk along xs ++ ys is the walk along xs where that is won or lost, else the walk along ys
-    pub walk-prefix : (xs ys : List P) → walk same v img (xs ++ ys) ≡ and-then (walk same v img xs) (walk same v img ys)
-    unfolding walk ending and-then
-    walk-prefix [] ys = refl
-    walk-prefix (k ∷ xs) ys = at (turn same v img k) (walk-prefix xs ys)
+  module _ (img : P → P) where
+    -- the entries after the turns of ks
+    unfoldable pub after : List P → (P → ℕ) → P → ℕ
+    after [] v = v
+    after (k ∷ ks) v = after ks (driven same (moveAt same img v k) k (img k) v)
+
+    -- the walk along xs ++ ys is the walk along xs where that is won or lost, else the walk along ys with what xs drove
+    pub walk-prefix : (xs ys : List P) (v : P → ℕ) → walk same img (xs ++ ys) v ≡ and-then (walk same img xs v) (walk same img ys (after xs v))
+    unfolding walk ending after and-then
+    walk-prefix [] ys v = refl
+    walk-prefix (k ∷ xs) ys v = at (moveAt same img v k) (walk-prefix xs ys)
       where
-        at : (t : Turn) → walk same v img (xs ++ ys) ≡ and-then (walk same v img xs) (walk same v img ys)
-            → ending t k (walk same v img (xs ++ ys)) ≡ and-then (ending t k (walk same v img xs)) (walk same v img ys)
-        at wins e = refl
-        at goes-on e = e
-        at loses e = refl
+        at : (m : Move) → ((w : P → ℕ) → walk same img (xs ++ ys) w ≡ and-then (walk same img xs w) (walk same img ys (after xs w)))
+            → ending m k (walk same img (xs ++ ys) (driven same m k (img k) v))
+            ≡ and-then (ending m k (walk same img xs (driven same m k (img k) v))) (walk same img ys (after xs (driven same m k (img k) v)))
+        at skips go = go (driven same skips k (img k) v)
+        at wins go = refl
+        at goes-on go = go (driven same goes-on k (img k) v)
+        at drives-zero go = go (driven same drives-zero k (img k) v)
+        at drives-one go = go (driven same drives-one k (img k) v)
+        at loses go = refl
 
-  -- the walk and its literals depend only on the images of the pairs of ks and on the entries at both
-  pub walk-alike : (v w : P → ℕ) (img jmg : P → P) (ks : List P) → Each (Alike v w img jmg) ks
-      → (walk same v img ks ≡ walk same w jmg ks) × (literals same v img ks ≡ literals same w jmg ks)
-  unfolding walk literals
-  walk-alike v w img jmg [] h = (refl, refl)
-  walk-alike v w img jmg (k ∷ ks) h =
-      let a : Alike v w img jmg k = each-first (Alike v w img jmg) h in
-      let rest = walk-alike v w img jmg ks (each-rest (Alike v w img jmg) h) in
-      (cc, cc)
-
-  -- so two arrangements with the same images of the pairs of ks have one walk along ks
-  pub images-alike : (v : P → ℕ) (img jmg : P → P) (ks : List P) → Each (λ k. img k ≡ jmg k) ks
-      → (walk same v img ks ≡ walk same v jmg ks) × (literals same v img ks ≡ literals same v jmg ks)
-  images-alike v img jmg ks h = walk-alike v v img jmg ks (λ k m. record { image = h k m; here = refl; there = ap v (h k m) })
+  -- two arrangements with the same images of the pairs of ks have one walk along ks
+  pub images-alike : (img jmg : P → P) (ks : List P) → Each (λ k. img k ≡ jmg k) ks → (v : P → ℕ) → walk same img ks v ≡ walk same jmg ks v
+  unfolding walk
+  images-alike img jmg [] h v = refl
+  images-alike img jmg (k ∷ ks) h v =
+      let e : img k ≡ jmg k = each-first (λ k. img k ≡ jmg k) h in
+      rw (e, images-alike img jmg ks (each-rest (λ k. img k ≡ jmg k) h) (driven same (moveAt same jmg v k) k (jmg k) v))

@@ -1,108 +1,133 @@
--- Standing is what the rules say, and there is one standing pair at most.
-use Prim.Native.Nat.{ℕ}
+-- A standing pair makes the walk won; on a full drawing it is the winning pair.
+use Prim.Native.Nat.{ℕ, _≤_}
+use native.Mathlib.Omega.{arith}
 use native.Mathlib.Decide.{ℕ-discrete}
-use mathlib.Core.Path.{_≡_, refl, sym, ap, subst}
-use mathlib.Core.Logic.{_↔_, _⊎_, inl, inr}
-use mathlib.Core.List.{List, [], _∷_, _++_, List·Memᴰ, List·Memᴰ·head, Memᴰ·append-right}
+use mathlib.Core.Path.{_≡_, refl, ap, _∙_}
+use mathlib.Core.Logic.{_⊎_, inl, inr, _↔_}
+use mathlib.Core.Bool.{Bool}
+use mathlib.Core.List.{List, [], _∷_, _++_, Memᴰ·append-left}
 use Rattle.laws.specs.Each.{Each, each-none, each-cons, each-first, each-rest}
-use Rattle.walk.specs.Words.{Holds, Wins, Undecided, Standing, StandsIn}
+use Rattle.walk.specs.Walk.{Tells, Move, ending, driven, walk, won}
+use Rattle.walk.specs.Meaning.{Full, Extends, Won}
+use Rattle.walk.specs.Earlier.{Earlier, copy}
+use Rattle.walk.specs.Standing.{Holds, Wins, StandsIn}
+use Rattle.walk.proofs.Order.{earlier-here, earlier-under}
+use Rattle.walk.proofs.Step.{Stepped, by-itself, winning, alike, zero-driven, one-driven, losing, stepped}
+use Rattle.walk.proofs.Meaning.{lost-not-won, open-not-won, won-means}
 
-module _ {P : Type 0} (v : P → ℕ) (img : P → P) where
-  -- ---- lists that decide nothing
-
-  pub undecided-none : Undecided v img []
-  undecided-none = record { holding = each-none (Holds v img); none = each-none (λ k. ¬ Wins v img k) }
-
-  pub undecided-cons : {k : P} {ks : List P} → Holds v img k → ¬ Wins v img k → Undecided v img ks → Undecided v img (k ∷ ks)
-  undecided-cons h n u =
-      record { holding = each-cons (Holds v img) h (u .holding); none = each-cons (λ k. ¬ Wins v img k) n (u .none) }
-
-  pub undecided-rest : {k : P} {ks : List P} → Undecided v img (k ∷ ks) → Undecided v img ks
-  undecided-rest u =
-      record { holding = each-rest (Holds v img) (u .holding); none = each-rest (λ k. ¬ Wins v img k) (u .none) }
-
-  -- a pair that wins is standing where nothing comes before it
-  pub stands-here : {k : P} {ks : List P} → Wins v img k → StandsIn v img (k ∷ ks) k
-  stands-here {k} {ks} w =
-      record { before = []; after = ks; split = refl; standing = record { wins = w; undecided = undecided-none } }
-
-  -- and is standing still where a pair that decides nothing is put in front
-  pub stands-later : {j k : P} {ks : List P} → Holds v img j → ¬ Wins v img j → StandsIn v img ks k → StandsIn v img (j ∷ ks) k
-  stands-later {j} h n s =
-      record {
-        before = j ∷ s .before;
-        after = s .after;
-        split = ap (λ l. j ∷ l) (s .split);
-        standing = record { wins = s .standing .wins; undecided = undecided-cons h n (s .standing .undecided) };
-      }
-
-  -- ---- the rules' sentence
-
-  -- a is 1, b is 0, every pair before holds and none before is standing
-  pub record Sentence (before : List P) (k : P) : Type 0 where
-    pub edge : v k ≡ 1
-    pub gap : v (img k) ≡ 0
-    pub holding : Each (Holds v img) before
-    pub none-standing : (l : List P) (j : P) (r : List P) → before ≡ l ++ j ∷ r → ¬ Standing v img l j
-
-  -- among pairs that hold, none wins or one is standing
-  none-or-standing : (ks : List P) → Each (Holds v img) ks → Undecided v img ks ⊎ ((k : P) × StandsIn v img ks k)
-  none-or-standing [] h = inl undecided-none
-  none-or-standing (j ∷ ks) h =
-      at (ℕ-discrete (v j) 1) (ℕ-discrete (v (img j)) 0) (none-or-standing ks (each-rest (Holds v img) h))
+module _ {P : Type 0} (L : P → Type 0) (img : P → P) (v H : P → ℕ) (full : Full L H) (extends : Extends L v H) where
+  -- where the pairs xs hold, and then a is 1 and b is 0, the copy is earlier
+  standing-earlier : (xs : List P) (k : P) (ys : List P) → Each L (xs ++ k ∷ ys) → Each (λ j. L (img j)) (xs ++ k ∷ ys)
+      → Each (Holds v img) xs → v k ≡ 1 → v (img k) ≡ 0 → Earlier (xs ++ k ∷ ys) (copy img H) H
+  standing-earlier [] k ys ls is h a b =
+      earlier-here (copy img H) H (omega (arith, extends (img k) (each-first (λ j. L (img j)) is) (omega arith))) (omega (arith, extends k (each-first L ls) (omega arith)))
+  standing-earlier (j ∷ xs) k ys ls is h a b =
+      earlier-under (copy img H) H (under (each-first (Holds v img) h)) (full j here)
+      (standing-earlier xs k ys (each-rest L ls) (each-rest (λ i. L (img i)) is) (each-rest (Holds v img) h) a b)
     where
-      later : ¬ Wins v img j → Undecided v img ks ⊎ ((k : P) × StandsIn v img ks k) → Undecided v img (j ∷ ks) ⊎ ((k : P) × StandsIn v img (j ∷ ks) k)
-      later n (inl u) = inl (undecided-cons (each-first (Holds v img) h) n u)
-      later n (inr s) = inr (s .0, stands-later (each-first (Holds v img) h) n (s .1))
+      here : L j
+      here = each-first L ls
 
-      at : Dec (v j ≡ 1) → Dec (v (img j) ≡ 0) → Undecided v img ks ⊎ ((k : P) × StandsIn v img ks k)
-          → Undecided v img (j ∷ ks) ⊎ ((k : P) × StandsIn v img (j ∷ ks) k)
-      at (yes a) (yes b) rest = inr (j, stands-here (a, b))
-      at (yes a) (no b) rest = later (λ w. b (w .1)) rest
-      at (no a) b rest = later (λ w. a (w .0)) rest
+      there : L (img j)
+      there = each-first (λ i. L (img i)) is
 
-  -- the definition, which is not recursive, is the rules' sentence, which is
-  pub standing-sentence : (before : List P) (k : P) → Standing v img before k ↔ Sentence before k
-  standing-sentence before k = (to, from)
+      under : (v j ≡ 1) ⊎ (v (img j) ≡ 0) ⊎ (img j ≡ j) → H (img j) ≤ H j
+      under (inl e) = omega (arith, extends j here (omega arith), full (img j) there)
+      under (inr (inl e)) = omega (arith, extends (img j) there (omega arith))
+      under (inr (inr e)) = omega (arith, ap H e)
+
+-- so the walk is won
+pub standing-won : {P : Type 0} {same : P → P → Bool} → Tells same → (L : P → Type 0) (img : P → P) (ks : List P) → Each L ks → Each (λ k. L (img k)) ks
+    → (v : P → ℕ) (k : P) → StandsIn v img ks k → Won same img ks v
+standing-won tells L img ks ls is v k s =
+    won-means tells L img ks ls is v .1
+    (λ H f x. rw (s .split) (standing-earlier L img v H f x (s .before) k (s .after) (rw (s .split) at ls) (rw (s .split) at is) (s .holding) (s .wins .0) (s .wins .1)))
+
+-- ---- full drawings
+
+module _ {P : Type 0} {same : P → P → Bool} (tells : Tells same) (v : P → ℕ) (img : P → P) where
+  -- a pair that holds and doesn't win changes nothing
+  holds-on : (k : P) (ks : List P) → v k ≤ 1 → v (img k) ≤ 1 → Holds v img k → ¬ Wins v img k → walk same img (k ∷ ks) v ≡ walk same img ks v
+  unfolding walk ending driven
+  holds-on k ks a b h n = at (stepped tells v img k)
     where
-      to : Standing v img before k → Sentence before k
-      to s =
+      at : {m : Move} → Stepped v img k m → ending m k (walk same img ks (driven same m k (img k) v)) ≡ walk same img ks v
+      at (by-itself p) = refl
+      at (winning m p q) = absurd (n (p, q))
+      at (alike m p q) = refl
+      at (zero-driven m p q) = absurd (omega arith)
+      at (one-driven m p q) = absurd (omega arith)
+      at (losing m p q) = absurd (fails h)
+        where
+          fails : (v k ≡ 1) ⊎ (v (img k) ≡ 0) ⊎ (img k ≡ k) → ⊥
+          fails (inl e) = p e
+          fails (inr (inl e)) = q e
+          fails (inr (inr e)) = m e
+
+  wins-here : (k : P) (ks : List P) → Wins v img k → walk same img (k ∷ ks) v ≡ won k
+  unfolding walk ending driven
+  wins-here k ks w = at (stepped tells v img k)
+    where
+      at : {m : Move} → Stepped v img k m → ending m k (walk same img ks (driven same m k (img k) v)) ≡ won k
+      at (by-itself p) = absurd (omega (arith, w .0, w .1, ap v p))
+      at (winning m p q) = refl
+      at (alike m p q) = absurd (omega (arith, w .0, w .1))
+      at (zero-driven m p q) = absurd (omega (arith, w .0))
+      at (one-driven m p q) = absurd (omega (arith, w .1))
+      at (losing m p q) = absurd (p (w .0))
+
+  stands-won : (xs : List P) (k : P) (ys : List P) → Each (λ j. v j ≤ 1) xs → Each (λ j. v (img j) ≤ 1) xs → Each (Holds v img) xs → Each (λ j. ¬ Wins v img j) xs → Wins v img k
+      → walk same img (xs ++ k ∷ ys) v ≡ won k
+  stands-won [] k ys a b h n w = wins-here k ys w
+  stands-won (j ∷ xs) k ys a b h n w =
+      holds-on j (xs ++ k ∷ ys) (each-first (λ j. v j ≤ 1) a) (each-first (λ j. v (img j) ≤ 1) b) (each-first (Holds v img) h) (each-first (λ j. ¬ Wins v img j) n)
+      ∙ stands-won xs k ys (each-rest (λ j. v j ≤ 1) a) (each-rest (λ j. v (img j) ≤ 1) b) (each-rest (Holds v img) h) (each-rest (λ j. ¬ Wins v img j) n) w
+
+  won-stands : (ks : List P) → Each (λ j. v j ≤ 1) ks → Each (λ j. v (img j) ≤ 1) ks → (k : P) → walk same img ks v ≡ won k → StandsIn v img ks k
+  unfolding walk ending driven
+  won-stands [] a b k e = absurd (open-not-won e)
+  won-stands (j ∷ ks) a b k e = at (stepped tells v img j) e (won-stands ks (each-rest (λ j. v j ≤ 1) a) (each-rest (λ j. v (img j) ≤ 1) b) k)
+    where
+      later : Holds v img j → ¬ Wins v img j → StandsIn v img ks k → StandsIn v img (j ∷ ks) k
+      later h n s =
           record {
-            edge = s .wins .0;
-            gap = s .wins .1;
-            holding = s .undecided .holding;
-            none-standing = λ l j r e t.
-                s .undecided .none j (subst (λ ks. List·Memᴰ j ks) (sym e) (Memᴰ·append-right l (List·Memᴰ·head refl))) (t .wins);
+            before = j ∷ s .before;
+            after = s .after;
+            split = ap (λ l. j ∷ l) (s .split);
+            holding = each-cons (Holds v img) h (s .holding);
+            none = each-cons (λ j. ¬ Wins v img j) n (s .none);
+            wins = s .wins;
           }
 
-      undecided : Sentence before k → Undecided v img before ⊎ ((j : P) × StandsIn v img before j) → Undecided v img before
-      undecided s (inl u) = u
-      undecided s (inr t) = absurd (s .none-standing (t .1 .before) (t .0) (t .1 .after) (t .1 .split) (t .1 .standing))
+      known : v j ≤ 1
+      known = each-first (λ j. v j ≤ 1) a
 
-      from : Sentence before k → Standing v img before k
-      from s = record { wins = (s .edge, s .gap); undecided = undecided s (none-or-standing before (s .holding)) }
+      known-image : v (img j) ≤ 1
+      known-image = each-first (λ j. v (img j) ≤ 1) b
 
-  -- ---- one at most
+      at : {m : Move} → Stepped v img j m → ending m j (walk same img ks (driven same m j (img j) v)) ≡ won k → (walk same img ks v ≡ won k → StandsIn v img ks k) → StandsIn v img (j ∷ ks) k
+      at (by-itself p) e go = later (inr (inr p)) (λ w. omega (arith, w .0, w .1, ap v p)) (go e)
+      at (winning m p q) e go =
+          let here : j ≡ k = cc in
+          record { before = []; after = ks; split = ap (λ i. i ∷ ks) here; holding = each-none (Holds v img); none = each-none (λ j. ¬ Wins v img j); wins = rw (← here) (p, q) }
+      at (alike m p q) e go = later (holds (ℕ-discrete (v j) 1)) (λ w. omega (arith, w .0, w .1)) (go e)
+        where
+          holds : Dec (v j ≡ 1) → (v j ≡ 1) ⊎ (v (img j) ≡ 0) ⊎ (img j ≡ j)
+          holds (yes o) = inl o
+          holds (no o) = inr (inl (omega arith))
+      at (zero-driven m p q) e go = absurd (omega (arith, known))
+      at (one-driven m p q) e go = absurd (omega (arith, known-image))
+      at (losing m p q) e go = absurd (lost-not-won e)
 
-  -- two standing pairs of one list are one, with the same pairs before it and after it
-  one-place : (before : List P) (k : P) (after before′ : List P) (k′ : P) (after′ : List P)
-      → before ++ k ∷ after ≡ before′ ++ k′ ∷ after′ → Standing v img before k → Standing v img before′ k′
-      → (before ≡ before′) × (k ≡ k′) × (after ≡ after′)
-  one-place [] k after [] k′ after′ e s t = (refl, cc, cc)
-  one-place [] k after (j ∷ before′) k′ after′ e s t =
-      absurd (t .undecided .none k (List·Memᴰ·head (cc)) (s .wins))
-  one-place (j ∷ before) k after [] k′ after′ e s t =
-      absurd (s .undecided .none k′ (List·Memᴰ·head (cc)) (t .wins))
-  one-place (j ∷ before) k after (j′ ∷ before′) k′ after′ e s t =
-      let first : j ≡ j′ = cc in
-      let rest : before ++ k ∷ after ≡ before′ ++ k′ ∷ after′ = cc in
-      let same = one-place before k after before′ k′ after′ rest (shorter s) (shorter t) in
-      (cc, same .1, same .2)
+  -- on a full drawing the walk is won exactly at the standing pair
+  pub full-standing : (ks : List P) → Each (λ j. v j ≤ 1) ks → Each (λ j. v (img j) ≤ 1) ks → (k : P) → (walk same img ks v ≡ won k) ↔ StandsIn v img ks k
+  full-standing ks a b k = (won-stands ks a b k, from)
     where
-      shorter : {i j : P} {ks : List P} → Standing v img (j ∷ ks) i → Standing v img ks i
-      shorter s = record { wins = s .wins; undecided = undecided-rest (s .undecided) }
+      first : (A : P → Type 0) (xs ys : List P) → Each A (xs ++ ys) → Each A xs
+      first A xs ys h j m = h j (Memᴰ·append-left ys m)
 
-  pub standing-once : (ks : List P) (k k′ : P) (s : StandsIn v img ks k) (t : StandsIn v img ks k′)
-      → (s .before ≡ t .before) × (k ≡ k′) × (s .after ≡ t .after)
-  standing-once ks k k′ s t =
-      one-place (s .before) k (s .after) (t .before) k′ (t .after) (cc (s .split, t .split)) (s .standing) (t .standing)
+      from : StandsIn v img ks k → walk same img ks v ≡ won k
+      from s =
+          let rest : List P = k ∷ s .after in
+          rw (s .split)
+          (stands-won (s .before) k (s .after) (first (λ j. v j ≤ 1) (s .before) rest (rw (s .split) at a)) (first (λ j. v (img j) ≤ 1) (s .before) rest (rw (s .split) at b)) (s .holding) (s .none) (s .wins))

@@ -1,55 +1,17 @@
--- The clause of a walk: its literals, and their numbers by rising number.
+-- Literals, the clause that they make by rising number, and what breaks them.
 use Prim.Native.Nat.{ℕ, suc, _<_}
 use mathlib.Core.Path.{_≡_}
-use mathlib.Core.Logic.{_≢_}
 use mathlib.Core.Bool.{Bool, true, false}
 use mathlib.Core.List.{List, [], _∷_, _++_, List·Memᴰ}
-use lib.Dec.{eqb}
 use lib.IntN.{ℤ, pos, negsuc, negℤ, natAbs}
 use lib.ListN.{length}
 use Rattle.laws.specs.Test.{either}
 use Rattle.laws.specs.Each.{Each}
-use Rattle.walk.specs.Walk.{Turn, wins, goes-on, loses, turn}
 
 -- "not k", and k
 pub data Literal (P : Type 0) : Type 0 where
   absent : P → Literal P
   present : P → Literal P
-
--- the literals from pair k on, where rest are those of the pairs after k: both at the winning pair; before it none where k is its
--- own image, else "not k" where a is 1, else k's image
-unfoldable pub met : {P : Type 0} (t : Turn) (own edge : Bool) (k image : P) (rest : List (Literal P)) → List (Literal P)
-met wins own edge k image rest = absent k ∷ present image ∷ []
-met goes-on true edge k image rest = rest
-met goes-on false true k image rest = absent k ∷ rest
-met goes-on false false k image rest = present image ∷ rest
-met loses own edge k image rest = []
-
--- the literals met along the walk
-module _ {P : Type 0} (same : P → P → Bool) (v : P → ℕ) (img : P → P) where
-  unfoldable pub literals : List P → List (Literal P)
-  literals [] = []
-  literals (k ∷ ks) = let rest = literals ks in met (turn same v img k) (same (img k) k) (eqb (v k) 1) k (img k) rest
-
--- ---- the literals in words, where `reached` are the pairs up to and with the standing one
-
--- "not j": j is reached, is an edge and isn't its own image
-pub record MetAsEdge {P : Type 0} (v : P → ℕ) (img : P → P) (reached : List P) (j : P) : Type 0 where
-  pub listed : List·Memᴰ j reached
-  pub moved : img j ≢ j
-  pub edge : v j ≡ 1
-
--- j: it is the image of a pair that is reached and isn't its own image, and is a non-edge
-pub record MetAsGap {P : Type 0} (v : P → ℕ) (img : P → P) (reached : List P) (j : P) : Type 0 where
-  pub source : P
-  pub listed : List·Memᴰ source reached
-  pub moved : img source ≢ source
-  pub image : img source ≡ j
-  pub gap : v j ≡ 0
-
-abbrev pub Met : {P : Type 0} → (P → ℕ) → (P → P) → List P → Literal P → Type 0
-Met v img reached (absent j) = MetAsEdge v img reached j
-Met v img reached (present j) = MetAsGap v img reached j
 
 -- ---- numbers
 

@@ -1,4 +1,7 @@
 pub mod Walk
-pub mod Words
+pub mod Meaning
+pub mod Free
 pub mod Clause
+pub mod Meeting
 pub mod Earlier
+pub mod Standing

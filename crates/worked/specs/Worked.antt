@@ -9,11 +9,14 @@ use Rattle.laws.specs.UpTo.{allUpTo, sumUpTo, wordUpTo, listUpTo}
 use Rattle.laws.specs.Chosen.{chosenUpTo}
 use Rattle.laws.specs.Num.{num}
 use Rattle.laws.specs.First.{firstUpTo, orElse}
-use Rattle.walk.specs.Walk.{step, ending, walk}
-use Rattle.walk.specs.Clause.{met, literals, sameLiteral, among, numbered, clauseAfter, clause}
+use Rattle.walk.specs.Walk.{move, ending, put, driven, walk}
+use Rattle.walk.specs.Meeting.{meeting, met, literalAt, literalsOf}
+use Rattle.walk.specs.Clause.{sameLiteral, among, numbered, clauseAfter, clause}
 use Rattle.beginnings.specs.Beginning.{absent, mayFollow, children}
 use Rattle.beginnings.specs.Search.{whereOpen, subtree, subtrees, reached, onWon, tryAll, searched}
 use Rattle.beginnings.specs.Certificate.{withFirst, completed}
+use Rattle.schemes.specs.Judging.{walkOf, literalsBy, writtenBy, judgementOf, judging, judged, found}
+use Rattle.plain.specs.Plain.{samePair, pairOfTwo, judgedOn}
 use Rattle.pairs.specs.Vertices.{orderFits}
 use Rattle.pairs.specs.Pairs.{alongRow, fromRow, pairs, pairCount, number}
 use Rattle.rows.specs.Rows.{mirrored}
@@ -31,8 +34,8 @@ use Rattle.record.specs.Answers.{recordIn, recordAt, readAnswer, bufferAfter}
 use Rattle.judging.specs.declared.Verdict.{Verdict}
 use Rattle.judging.specs.declared.Verdict.the-variants.{Smaller, Nothing, Cut}
 use Rattle.judging.specs.declared.Judged.{Judged}
-use Rattle.judging.specs.Judging.{samePair, pairOfTwo, image, walkAll, literalsOf, clauseOf, judgedOn, judgementOf, judged, found, padded, certificateOf}
-use Rattle.judging.specs.Answer.{without, standingPair, smaller, answerFor, judgeAnswer, atStart, judgeBuffer}
+use Rattle.judging.specs.Judging.{padded, certificateOf}
+use Rattle.judging.specs.Answer.{without, winningPair, smaller, answerFor, judgeAnswer, atStart, judgeBuffer}
 
 -- a graph by its entries in row order with its record, a budget, and what judging it must give
 record Case : Type 0 where
@@ -64,7 +67,9 @@ cases =
     ∷ record { order = 3; starts = 5; entries = 0 ∷ 1 ∷ 0 ∷ []; bytes = 0x0d ∷ 0x10 ∷ []; budget = 1000; verdict = Smaller 1 3 6; arrangement = 2 ∷ 1 ∷ 3 ∷ []; literals = negsuc 1 ∷ pos 3 ∷ [] }
     ∷ record { order = 3; starts = 1; entries = u ∷ u ∷ u ∷ []; bytes = 0x0c ∷ 0xa8 ∷ []; budget = 1000; verdict = Nothing 11; arrangement = []; literals = [] }
     ∷ record { order = 3; starts = 1; entries = 0 ∷ 1 ∷ u ∷ []; bytes = 0x0c ∷ 0x18 ∷ []; budget = 1000; verdict = Nothing 11; arrangement = []; literals = [] }
+    ∷ record { order = 3; starts = 1; entries = 1 ∷ u ∷ 0 ∷ []; bytes = 0x0c ∷ 0x60 ∷ []; budget = 1000; verdict = Smaller 1 2 9; arrangement = 2 ∷ 3 ∷ 1 ∷ []; literals = negsuc 0 ∷ pos 3 ∷ [] }
     ∷ record { order = 4; starts = 1; entries = u ∷ 1 ∷ u ∷ u ∷ 0 ∷ 0 ∷ []; bytes = 0x10 ∷ 0x4d ∷ 0x00 ∷ []; budget = 1000; verdict = Smaller 1 3 13; arrangement = 2 ∷ 1 ∷ 4 ∷ 3 ∷ []; literals = negsuc 1 ∷ pos 5 ∷ [] }
+    ∷ record { order = 4; starts = 1; entries = 0 ∷ u ∷ 0 ∷ 1 ∷ 0 ∷ 1 ∷ []; bytes = 0x10 ∷ 0x10 ∷ 0x88 ∷ []; budget = 1000; verdict = Smaller 2 3 6; arrangement = 1 ∷ 2 ∷ 4 ∷ 3 ∷ []; literals = pos 3 ∷ negsuc 3 ∷ pos 5 ∷ [] }
     ∷ []
 
 abbrev graphOf : Case → Graph
@@ -102,5 +107,5 @@ expected c =
 
 -- the claim: each case gives what is expected of it
 worked : map given cases ≡ map expected cases
-unfolding both either pick unless allUpTo sumUpTo wordUpTo listUpTo chosenUpTo step ending walk met literals sameLiteral among numbered clauseAfter clause absent mayFollow children whereOpen subtree subtrees reached onWon tryAll searched withFirst completed placed mirrored drawn pairFits rowFits startsFit orderFits wellFormed alongRow fromRow pairs samePair pairOfTwo image walkAll literalsOf clauseOf judgedOn judgementOf judged found padded certificateOf without standingPair smaller answerFor judgeAnswer atStart judgeBuffer flatMap num firstUpTo orElse bitCount byteCount bitOf orderIn startIn startsIn numberedIn entryIn isRefused refusedIn padIn graphIn entryBit recordBit recordByte recordOf recordIn recordAt readAnswer bufferAfter
+unfolding both either pick unless allUpTo sumUpTo wordUpTo listUpTo chosenUpTo move ending put driven walk meeting met literalAt literalsOf sameLiteral among numbered clauseAfter clause absent mayFollow children whereOpen subtree subtrees reached onWon tryAll searched withFirst completed placed mirrored drawn pairFits rowFits startsFit orderFits wellFormed alongRow fromRow pairs samePair pairOfTwo walkOf literalsBy writtenBy judgedOn judgementOf judging judged found padded certificateOf without winningPair smaller answerFor judgeAnswer atStart judgeBuffer flatMap num firstUpTo orElse bitCount byteCount bitOf orderIn startIn startsIn numberedIn entryIn isRefused refusedIn padIn graphIn entryBit recordBit recordByte recordOf recordIn recordAt readAnswer bufferAfter
 worked = refl

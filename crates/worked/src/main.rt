@@ -11,11 +11,11 @@ use show::byte;
 use show::filled;
 use show::from_column;
 use show::text;
-use text::parts::first_bytes;
 use tables::byte_at;
 use tables::digit_at;
 use tables::hex_at;
 use tables::row_end;
+use text::parts::first_bytes;
 
 // ---- what a row holds
 

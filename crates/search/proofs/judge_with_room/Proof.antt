@@ -1,5 +1,6 @@
 use borrow.Author.Needs.{needs}
 use Rattle.exploring.proofs.CodeSearch.{order-bounded}
+use Rattle.graph.specs.Graph.{graphOf}
 use Rattle.search.proofs.CodeJudge.{still-zeros, found-begins, found-won, answers-none, answers-cut, answers-first, none-buffer, cut-buffer, smaller-buffer}
 use Rattle.search.proofs.judge_with_room.Statement.{statement}
 use Rattle.search.proofs.judge_with_room.Tie as tie
@@ -10,7 +11,9 @@ block-masks-requires c κs = search order-bounded
 certify-requires : tie.Need-certify-requires
 certify-requires c κs =
     let end = c .before .before .before .explore in
-    (search needs, search needs, search needs, search needs, found-begins _ _ (end .result) _ (end .ensures .0) (c .before .before .if1 .taken), found-won _ _ (end .result) _ (end .ensures .0) (c .before .before .if1 .taken), search still-zeros)
+    let start = c .before .before .before .before .before .before .before .args in
+    let graph = graphOf (start .n) (start .edges .now) (start .unknowns .now) (start .starts) in
+    (search needs, search needs, search needs, search needs, found-begins graph _ (end .result) _ (end .ensures .0) (c .before .before .if1 .taken), found-won graph _ (end .result) _ (end .ensures .0) (c .before .before .if1 .taken), search still-zeros)
 
 returns : tie.Need-returns
 returns c = (search answers-first, search smaller-buffer)

@@ -2,7 +2,7 @@ use borrow.Author.Needs.{needs}
 use Prim.Native.Nat.{_-_, _≤_}
 use mathlib.Core.Path.{_≡_}
 use lib.ListN.{take}
-use Rattle.exploring.specs.Masks.{usedMask}
+use Rattle.stops.specs.Used.{usedMask}
 use Rattle.clause.proofs.CodeCertificate.{path-low, path-high, used-longer, used-small, used-starts, used-done}
 use Rattle.clause.proofs.certificate.used_mask.Statement.{statement}
 use Rattle.clause.proofs.certificate.used_mask.Tie as tie

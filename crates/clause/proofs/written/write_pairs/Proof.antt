@@ -2,8 +2,8 @@ use borrow.Author.Needs.{needs}
 use Prim.Native.Nat.{_-_}
 use Rattle.pairs.specs.Pairs.{pair}
 use Rattle.kinds.specs.Kinds.{kindAt}
-use Rattle.kinds.proofs.ColumnLaws.{before-within, row-within, column-within, first-before, places-tested, source-known}
-use Rattle.clause.proofs.Writing.{Rows, rows-begin, rows-long, rows-done, few-before, room-for, rows-turn}
+use Rattle.kinds.proofs.ColumnLaws.{before-within, row-within, column-within, first-before, places-tested}
+use Rattle.clause.proofs.Writing.{Rows, rows-begin, rows-done, room-for, rows-turn}
 use Rattle.clause.proofs.written.write_pairs.Statement.{statement}
 use Rattle.clause.proofs.written.write_pairs.Tie as tie
 
@@ -25,23 +25,14 @@ first-places-requires-3 c κs = (search needs, search (column-within, needs))
 loop-holds : tie.Need-loop-holds Inv-loop μ-loop
 loop-holds c = search (rows-begin, needs)
 
-vertex-of-requires : tie.Need-vertex-of-requires Inv-loop μ-loop
-vertex-of-requires c κs = (search needs, search (places-tested, needs), search needs, search needs)
-
-sources-requires : tie.Need-sources-requires Inv-loop μ-loop
-sources-requires c κs = (search needs, search needs, search needs, search (first-before, needs), search (first-before, needs), search (first-before, needs))
-
 columns-of-requires : tie.Need-columns-of-requires Inv-loop μ-loop
-columns-of-requires c κs = (search needs, search needs, search needs, search needs, search (source-known, needs))
+columns-of-requires c κs = (search needs, search (places-tested, needs), search needs, search needs, search needs, search (first-before, needs), search (first-before, needs), search (first-before, needs), search needs, search needs)
 
 write-row-requires : tie.Need-write-row-requires Inv-loop μ-loop
-write-row-requires c κs = (search needs, search (places-tested, needs), search needs, search needs, search (few-before, needs), search (room-for, needs), search needs, search needs)
+write-row-requires c κs = (search needs, search (places-tested, needs), search needs, search needs, search needs, search needs, search needs, search (room-for, needs), search needs, c .before .columns-of .ensures .1 _)
 
 loop-again : tie.Need-loop-again Inv-loop μ-loop
 loop-again c = search rows-turn
-
-same-length : tie.Need-same-length Inv-loop μ-loop
-same-length c = search (rows-long, needs)
 
 returns : tie.Need-returns Inv-loop μ-loop
 returns c = search (rows-done, needs)
@@ -49,5 +40,5 @@ returns c = search (rows-done, needs)
 pub write-pairs-spec : {M : Type 1} → statement M
 write-pairs-spec =
     tie.close (tie.spec Inv-loop μ-loop (λ c. search needs) first-places-requires first-places-requires-2
-    first-places-requires-3 loop-holds vertex-of-requires (λ c κs. search needs) sources-requires columns-of-requires
-    write-row-requires (λ c. search needs) (λ c. search needs) loop-again same-length returns)
+    first-places-requires-3 loop-holds columns-of-requires write-row-requires (λ c. search needs) (λ c. search needs)
+    loop-again (λ c. search needs) returns)

@@ -2,7 +2,7 @@ use borrow.Author.Needs.{needs}
 use Prim.Native.Nat.{_+_, _-_}
 use Rattle.pairs.specs.Pairs.{pair}
 use Rattle.kinds.specs.Kinds.{kindAt}
-use Rattle.clause.proofs.Writing.{Along, along-begins, along-long, along-done, column-in, column-after, lowest-small, column-fits, next-column-fits, number-fits, next-number-fits, number-small, fewer-left, room-left, along-turns}
+use Rattle.clause.proofs.Writing.{Along, along-begins, along-done, column-in, column-after, lowest-small, column-fits, next-column-fits, number-fits, next-number-fits, number-small, fewer-left, room-left, along-turns}
 use Rattle.clause.proofs.written.write_row.Statement.{statement}
 use Rattle.clause.proofs.written.write_row.Tie as tie
 
@@ -22,7 +22,7 @@ add-m : tie.Need-add-m Inv-loop μ-loop
 add-m c = search (number-fits, needs)
 
 kind-at-requires : tie.Need-kind-at-requires Inv-loop μ-loop
-kind-at-requires c κs = (search needs, search needs, search needs, search (column-after, needs), search (column-in, needs))
+kind-at-requires c κs = (search needs, search needs, search needs, search needs, search needs, search (column-after, needs), search (column-in, needs))
 
 put-requires : tie.Need-put-requires Inv-loop μ-loop
 put-requires c κs = (search (room-left, needs), search (number-small, needs))
@@ -42,13 +42,10 @@ loop-less c = search (fewer-left, needs)
 loop-again : tie.Need-loop-again Inv-loop μ-loop
 loop-again c = search along-turns
 
-same-length : tie.Need-same-length Inv-loop μ-loop
-same-length c = search (along-long, needs)
-
 returns : tie.Need-returns Inv-loop μ-loop
 returns c = search (along-done, needs)
 
 pub write-row-spec : {M : Type 1} → statement M
 write-row-spec =
     tie.close (tie.spec Inv-loop μ-loop (λ c. search needs) (λ c κs. search needs) loop-holds (λ c κs. search needs)
-    add-j-2 add-m kind-at-requires put-requires shr-left add-j-3 add-m-2 loop-less loop-again same-length returns)
+    add-j-2 add-m kind-at-requires put-requires shr-left add-j-3 add-m-2 loop-less loop-again (λ c. search needs) returns)

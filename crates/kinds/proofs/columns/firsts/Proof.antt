@@ -13,5 +13,4 @@ returns-3 : tie.Need-returns-3
 returns-3 c = search (firsts-none, needs)
 
 pub firsts-spec : {M : Type 1} → statement M
-firsts-spec =
-    tie.close (tie.spec returns (λ c. search needs) (λ c. search needs) returns-2 returns-3)
+firsts-spec = tie.close (tie.spec returns (λ c. search needs) (λ c. search needs) returns-2 returns-3)

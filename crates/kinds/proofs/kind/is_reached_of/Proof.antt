@@ -10,5 +10,4 @@ returns-2 : tie.Need-returns-2
 returns-2 c = search (reached-falling, needs)
 
 pub is-reached-of-spec : {M : Type 1} → statement M
-is-reached-of-spec =
-    tie.close (tie.spec (λ c κs. search needs) returns (λ c κs. search needs) returns-2)
+is-reached-of-spec = tie.close (tie.spec (λ c κs. search needs) returns (λ c κs. search needs) returns-2)

@@ -1,0 +1,64 @@
+-- Walks and clauses of small graphs, computed; and that order 3 with the entries 1, unknown, 0 has the certificate 3, 1, 2.
+use Prim.Native.Nat.{ℕ, _-_}
+use native.Mathlib.Omega.{arith}
+use mathlib.Core.Path.{_≡_, refl}
+use mathlib.Core.List.{List, [], _∷_}
+use lib.IntN.{pos, negsuc}
+use lib.ListN.{getD}
+use Rattle.laws.specs.Test.{both, either, pick}
+use Rattle.laws.specs.UpTo.{wordUpTo, listUpTo, allUpTo, sumUpTo}
+use Rattle.walk.specs.Walk.{won, move, ending, put, driven, walk}
+use Rattle.walk.specs.Meeting.{meeting, met, literalAt}
+use Rattle.walk.specs.Meeting
+use Rattle.walk.specs.Clause.{sameLiteral, among, numbered, clauseAfter, clause}
+use Rattle.schemes.specs.Judging.{walkOf, literalsBy, writtenBy}
+use Rattle.plain.specs.Plain.{samePair, pairOfTwo}
+use Rattle.graph.specs.declared.Graph.{Graph}
+use Rattle.words.specs.Placed.{placed}
+use Rattle.rows.specs.Rows.{mirrored}
+use Rattle.graph.specs.Graph.{drawn}
+use Rattle.composing.specs.Composed.{placeOf, inverse}
+use Rattle.pairs.specs.Pairs.{pair, alongRow, fromRow, pairs, number}
+use Rattle.judging.specs.Judging.{walkAll, literalsOf, clauseOf, padded}
+use mathlib.Core.Bool.{true}
+use Rattle.pairs.specs.Vertices.{orderFits}
+use Rattle.rows.specs.Fits.{pairFits, rowFits, startsFit}
+use Rattle.graph.specs.WellFormed.{wellFormed}
+use Rattle.graph.proofs.Formed.{formed}
+use Rattle.arrangements.specs.Arrangement.{isNew, placeFits, isReordering, staysInBlock, isPermitted}
+use Rattle.arrangements.proofs.Permits.{permitted}
+use Rattle.judging.specs.Certificates.{Certified}
+use Rattle.judging.proofs.Meaning.{certified-won}
+
+-- the entries 1, 1, 0, and an arrangement that isn't its own inverse: the two have different winning pairs and clauses
+abbrev drawing : Graph
+drawing = drawn 3 1 (λ i j. getD (1 ∷ 1 ∷ 0 ∷ []) (number 3 i j - 1) 0)
+
+abbrev turning : List ℕ
+turning = padded (2 ∷ 3 ∷ 1 ∷ [])
+
+computed : (walkAll drawing turning ≡ won (pair 1 2)) × (clauseOf drawing turning ≡ negsuc 0 ∷ pos 3 ∷ [])
+    × (walkAll drawing (inverse 3 turning) ≡ won (pair 1 3)) × (clauseOf drawing (inverse 3 turning) ≡ negsuc 0 ∷ negsuc 1 ∷ pos 3 ∷ [])
+unfolding both either pick wordUpTo listUpTo move ending put driven walk meeting met literalAt Meeting.literalsOf sameLiteral among numbered clauseAfter clause placed mirrored drawn alongRow fromRow pairs placeOf inverse samePair pairOfTwo padded walkOf literalsBy writtenBy
+computed = (refl, refl, refl, refl)
+
+-- the entries 1, unknown, 0, and the arrangement 3, 1, 2: (1, 3) is unknown, is driven to 1 by (1, 2), and wins against (2, 3)
+abbrev halfDrawn : Graph
+halfDrawn = drawn 3 1 (λ i j. getD (1 ∷ 2 ∷ 0 ∷ []) (number 3 i j - 1) 0)
+
+driven-computed : (walkAll halfDrawn (padded (3 ∷ 1 ∷ 2 ∷ [])) ≡ won (pair 1 3)) × (clauseOf halfDrawn (padded (3 ∷ 1 ∷ 2 ∷ [])) ≡ negsuc 0 ∷ pos 3 ∷ [])
+unfolding both either pick wordUpTo listUpTo move ending put driven walk meeting met literalAt Meeting.literalsOf sameLiteral among numbered clauseAfter clause placed mirrored drawn alongRow fromRow pairs samePair pairOfTwo padded walkOf literalsBy writtenBy
+driven-computed = (refl, refl)
+
+half-formed : wellFormed halfDrawn ≡ true
+unfolding both either pick wordUpTo listUpTo allUpTo placed mirrored drawn orderFits startsFit rowFits pairFits wellFormed
+half-formed = refl
+
+half-permitted : isPermitted 3 1 (padded (3 ∷ 1 ∷ 2 ∷ [])) ≡ true
+unfolding both either pick allUpTo sumUpTo isNew placeFits isReordering staysInBlock isPermitted padded
+half-permitted = refl
+
+-- so 3, 1, 2 is a certificate of it
+pub half-certified : Certified halfDrawn (padded (3 ∷ 1 ∷ 2 ∷ []))
+unfolding drawn
+half-certified = certified-won halfDrawn (formed halfDrawn half-formed) (padded (3 ∷ 1 ∷ 2 ∷ [])) (permitted 3 1 (padded (3 ∷ 1 ∷ 2 ∷ [])) (omega arith) half-permitted) .1 (pair 1 3, driven-computed .0)

@@ -1,0 +1,123 @@
+-- What a certificate is: a permitted arrangement is one exactly where its walk is won. The full drawings of a graph, as graphs and as entries
+-- at its pairs, are the same thing.
+use Prim.Native.Nat.{ℕ, _≤_, _<_}
+use native.Mathlib.Omega.{arith}
+use mathlib.Core.Path.{_≡_, refl, sym, _∙_}
+use mathlib.Core.Logic.{_↔_}
+use mathlib.Core.List.{List}
+use lib.Dec.{ltb}
+use borrow.Author.Tests.{lt-ltb}
+use Rattle.laws.specs.Each.{Each}
+use Rattle.laws.specs.TestLaws.{pick-true}
+use Rattle.walk.specs.Walk.{won}
+use Rattle.walk.proofs.Order.{earlier-alike}
+use Rattle.schemes.specs.Judging.{FullOn, Has, copyBy, Comes}
+use Rattle.schemes.proofs.Images.{image-listed}
+use Rattle.schemes.proofs.Meaning.{walk-means}
+use Rattle.plain.specs.Plain.{byRows}
+use Rattle.plain.proofs.Plain.{rows-lawful}
+use Rattle.graph.specs.declared.Graph.{Graph}
+use Rattle.graph.specs.Graph.{entry, drawn, relabelled}
+use Rattle.rows.specs.Rows.{mirrored}
+use Rattle.graph.specs.WellFormed.{WellFormed}
+use Rattle.arrangements.specs.Arrangement.{at, Permitted}
+use Rattle.pairs.specs.Pairs.{Pair, pair, pairs}
+use Rattle.graph.specs.Counts.{entryAt}
+use Rattle.pairs.proofs.PairLaws.{pairs-given, pairs-has}
+use Rattle.graph.proofs.Drawn.{drawn-entry, drawn-formed}
+use Rattle.graph.proofs.Relabelling.{relabelled-order, relabelled-entry}
+use Rattle.judging.specs.Order.{EarlierGraph}
+use Rattle.judging.specs.Judging.{walkAll}
+use Rattle.judging.specs.Certificates.{FullGraph, Certified}
+use Rattle.judging.proofs.FullyDrawn.{fully-drawn-by}
+use Rattle.judging.proofs.Arrangements.{permitted-arranges, entry-of-two}
+
+-- ---- copies
+
+-- the entry of a graph relabelled by p at a pair is the graph's entry at its image
+pub relabelled-image : (h : Graph) → WellFormed h → (p : List ℕ) → Each (λ k. entryAt (relabelled h p) k ≡ copyBy (byRows (h .order)) p (entryAt h) k) (pairs (h .order))
+relabelled-image h w p k m =
+    let b = pairs-given (h .order) k m in
+    relabelled-entry h p w (k .row) (k .column) (b .from-low) (omega arith) (omega arith) (b .to-high)
+    ∙ sym (entry-of-two h w (at p (k .row)) (at p (k .column)))
+
+-- so the relabelled graph is earlier exactly where the entries of the images are
+pub copy-earlier : (h : Graph) → WellFormed h → (p : List ℕ) → Comes (byRows (h .order)) (copyBy (byRows (h .order)) p (entryAt h)) (entryAt h) ↔ EarlierGraph (relabelled h p) h
+copy-earlier h w p =
+    rw (relabelled-order h p w) (
+      earlier-alike (pairs (h .order)) (copyBy (byRows (h .order)) p (entryAt h)) (entryAt h) (entryAt (relabelled h p)) (entryAt h) (relabelled-image h w p) (λ k m. refl),
+      earlier-alike (pairs (h .order)) (entryAt (relabelled h p)) (entryAt h) (copyBy (byRows (h .order)) p (entryAt h)) (entryAt h) (λ k m. sym (relabelled-image h w p k m)) (λ k m. refl),
+    )
+
+-- ---- drawings
+
+-- every full drawing of entries is that of a graph
+module _ (g : Graph) (w : WellFormed g) (H : Pair → ℕ) (full : FullOn (byRows (g .order)) H) where
+  pub graphWith : Graph
+  graphWith = drawn (g .order) (g .starts) (λ i j. H (pair i j))
+
+  small : (i j : ℕ) → 1 ≤ i → i < j → j ≤ g .order → H (pair i j) ≤ 1
+  small i j li l hj = full (pair i j) (pairs-has (g .order) (pair i j) (record { from-low = li; rising = l; to-high = hj }))
+
+  with-entry : (i j : ℕ) → 1 ≤ i → i < j → j ≤ g .order → entry graphWith i j ≡ H (pair i j)
+  unfolding graphWith mirrored
+  with-entry i j li l hj =
+      drawn-entry (g .order) (g .starts) (λ i j. H (pair i j)) (λ a b la c hb. omega (arith, small a b la c hb)) i j li (omega arith) (omega arith) hj
+      ∙ pick-true (ltb i j) _ _ (lt-ltb i j l)
+
+  with-order : graphWith .order ≡ g .order
+  unfolding graphWith drawn
+  with-order = refl
+
+  with-starts : graphWith .starts ≡ g .starts
+  unfolding graphWith drawn
+  with-starts = refl
+
+  with-formed : WellFormed graphWith
+  unfolding graphWith
+  with-formed =
+      drawn-formed (g .order) (g .starts) (λ i j. H (pair i j)) (w .order-low) (w .order-high) (w .first-starts) (w .no-start-past)
+      (λ i j li l hj. omega (arith, small i j li l hj))
+
+  pub with-entries : Each (λ k. entryAt graphWith k ≡ H k) (pairs (g .order))
+  with-entries k m = let b = pairs-given (g .order) k m in with-entry (k .row) (k .column) (b .from-low) (b .rising) (b .to-high)
+
+  pub with-full : FullGraph (g .order) (g .starts) graphWith
+  with-full =
+      record {
+        formed = with-formed;
+        full = fully-drawn-by graphWith with-formed (λ i j li l hj. let h : j ≤ g .order = rw with-order at hj in omega (arith, with-entry i j li l h, small i j li l h));
+        order-is = with-order;
+        starts-are = with-starts;
+      }
+
+-- ---- certificates
+
+module _ (g : Graph) (w : WellFormed g) (p : List ℕ) (permitted : Permitted (g .order) (g .starts) p) where
+  -- the walk is won exactly where the copy of every full drawing of entries comes earlier
+  means : ((k : Pair) × (walkAll g p ≡ won k)) ↔ ((H : Pair → ℕ) → FullOn (byRows (g .order)) H → Has (byRows (g .order)) (entryAt g) H → Comes (byRows (g .order)) (copyBy (byRows (g .order)) p H) H)
+  means = walk-means (rows-lawful (g .order)) (entryAt g) p (permitted-arranges (g .order) (g .starts) p permitted .reorders)
+
+  -- so it is won exactly where every full drawing of g has an earlier relabelled copy
+  pub certified-won : Certified g p ↔ ((k : Pair) × (walkAll g p ≡ won k))
+  certified-won = (to, from)
+    where
+      from : (k : Pair) × (walkAll g p ≡ won k) → Certified g p
+      from k =
+          record {
+            permitted = permitted;
+            earlier = λ h c.
+                let d = c .drawing in
+                copy-earlier h (d .formed) p .0 (rw (d .order-is) (means .0 k (entryAt h) (λ j m. d .full .known (j .row) (j .column)) (c .agrees)));
+          }
+
+      to : Certified g p → (k : Pair) × (walkAll g p ≡ won k)
+      to c =
+          means .1
+          (λ H f x.
+          let h : Graph = graphWith g w H f in
+          let d : FullGraph (g .order) (g .starts) h = with-full g w H f in
+          let same : Each (λ k. entryAt h k ≡ H k) (pairs (g .order)) = with-entries g w H f in
+          let e : Comes (byRows (g .order)) (copyBy (byRows (g .order)) p (entryAt h)) (entryAt h) = rw (d .order-is) at (copy-earlier h (d .formed) p .1 (c .earlier h (record { drawing = d; agrees = λ k m l. same k m ∙ x k m l }))) in
+          earlier-alike (pairs (g .order)) (copyBy (byRows (g .order)) p (entryAt h)) (entryAt h) (copyBy (byRows (g .order)) p H) H
+          (λ k m. sym (same _ (image-listed (rows-lawful (g .order)) p (permitted-arranges (g .order) (g .starts) p permitted .reorders) k m))) (λ k m. sym (same k m)) e)

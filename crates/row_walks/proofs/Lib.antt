@@ -1,0 +1,3 @@
+pub mod CodeRows
+pub mod AlikeRows
+pub mod RowWords

@@ -1,0 +1,10 @@
+pub mod Images
+pub mod Arranging
+pub mod Inverse
+pub mod Meaning
+pub mod Judgements
+pub mod Certificates
+pub mod Exact
+pub mod Smallest
+pub mod Least
+pub mod Free

@@ -1,0 +1,4 @@
+pub mod Scheme
+pub mod Judging
+pub mod Answer
+pub mod Free

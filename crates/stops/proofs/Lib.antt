@@ -1,0 +1,5 @@
+pub mod UsedLaws
+pub mod CodeStops
+pub mod StopLaws
+pub mod StoppingLaws
+pub mod CodeTried
