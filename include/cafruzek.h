@@ -1,8 +1,8 @@
-/* Cafruzek judges partially drawn graphs: does a permitted renumbering of the
- * vertices have a standing pair, so that every way to complete this graph has a
- * copy that is smaller in dictionary order? "None" denies the standing pair; of a
- * graph with unknown entries it does not say that no renumbering makes every
- * completion smaller. Of a fully drawn graph it says that none is smaller.
+/* Cafruzek judges partially drawn graphs: is there a permitted renumbering of the
+ * vertices under which every way to complete this graph has a copy that is smaller
+ * in dictionary order? "None" says that no single renumbering does this for all
+ * completions; each of them may still have a smaller copy by one of its own. Of a
+ * fully drawn graph it says that no permitted renumbering is smaller.
  *
  * Each function is one call on memory that the caller lends for that call.
  * Nothing is allocated, nothing is kept between two calls, a call takes less than
@@ -133,7 +133,8 @@ static inline uint32_t cafruzek_steps(uint64_t answer)
     return (uint32_t)answer;
 }
 
-/* The row and the column of the standing pair; 0 except for "smaller". */
+/* The row and the column of the winning pair, at which the renumbering shows itself
+ * smaller (S1 of the rules); 0 except for "smaller". */
 static inline uint32_t cafruzek_row(uint64_t answer)
 {
     return (uint32_t)(answer >> 32) & 63;

@@ -38,7 +38,7 @@ static int unchanged(void)
 
 static void judging(void)
 {
-    const uint8_t one_edge[] = {0x0c, 0x40, 0xff}, last_edge[] = {0x0c, 0x04};
+    const uint8_t one_edge[] = {0x0c, 0x40, 0xff}, last_edge[] = {0x0c, 0x04}, half[] = {0x10, 0x10, 0x88};
 
     uint64_t answer = judge(one_edge, sizeof one_edge, UINT32_MAX);
     CHECK(cafruzek_code(answer) == CAFRUZEK_SMALLER && cafruzek_refusal(answer) == 0);
@@ -53,6 +53,13 @@ static void judging(void)
 
     answer = judge(last_edge, sizeof last_edge, UINT32_MAX);
     CHECK(cafruzek_code(answer) == CAFRUZEK_NONE && cafruzek_steps(answer) == 13 && unchanged());
+
+    /* Order 4, the entries 0, unknown, 0, 1, 0, 1. */
+    answer = judge(half, sizeof half, UINT32_MAX);
+    CHECK(cafruzek_code(answer) == CAFRUZEK_SMALLER && cafruzek_steps(answer) == 6);
+    CHECK(cafruzek_row(answer) == 2 && cafruzek_column(answer) == 3 && cafruzek_literals(answer) == 3);
+    CHECK(literals[0] == 3 && literals[1] == -4 && literals[2] == 5 && literals[3] == 0x55555555);
+    CHECK(arrangement[0] == 1 && arrangement[1] == 2 && arrangement[2] == 4 && arrangement[3] == 3);
 }
 
 /* Checks that reading refuses these bytes alike in both functions. */

@@ -53,8 +53,8 @@ static struct function {
     size_t touched, literals;
     int seen[4];
 } functions[] = {
-    {"cafruzek_judge_record", judge_record, 1500, 1, 0, 0, {0}},
-    {"cafruzek_judge_rows", judge_rows, 1200, 1, 0, 0, {0}},
+    {"cafruzek_judge_record", judge_record, 1650, 1, 0, 0, {0}},
+    {"cafruzek_judge_rows", judge_rows, 1350, 1, 0, 0, {0}},
     {"cafruzek_record_size", record_size, 300, 0, 0, 0, {0}},
     {"cafruzek_write_record", write_record, 950, 0, 0, 0, {0}},
 };
@@ -145,7 +145,7 @@ static void first_edge(void)
 }
 
 /* Blocks of two, which change places all together or not at all, and then a pair near
- * the last is standing: a long clause. */
+ * the last wins: a long clause. */
 static void twins(void)
 {
     clear();

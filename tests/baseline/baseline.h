@@ -40,7 +40,7 @@ uint64_t baseline_read(const uint8_t *record, size_t record_len, struct graph *g
 
 enum { NONE = 0, SMALLER = 1, CUT = 2 };
 
-/* How a search ended. Where it found one: the first certificate, and its standing pair. */
+/* How a search ended. Where it found one: the first certificate, and its winning pair. */
 struct found {
     uint32_t ending, steps;
     uint32_t row, column;

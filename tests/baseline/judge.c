@@ -8,9 +8,8 @@ static inline uint32_t below(uint32_t bound)
 }
 
 /* Writes the clause in one pass by rising pair number, a row's pairs as masks of their
- * columns, and tells how many literals it has. A pair that is an edge is in it up to the
- * standing pair; a non-edge where it is the image of the standing pair or of one before;
- * neither where it is its own image. */
+ * columns, and tells how many literals it has. A pair that is known is in it where it was
+ * met up to the winning pair, as itself or as an image, and not as both at once. */
 static size_t write_clause(uint32_t order, const uint32_t *restrict edges,
                            const uint32_t *restrict unknowns,
                            const struct found *restrict found, int32_t *restrict literals)
@@ -18,8 +17,8 @@ static size_t write_clause(uint32_t order, const uint32_t *restrict edges,
     const uint32_t row = found->row, column = found->column, *vertices = found->vertices;
     uint32_t place_of[32];
     uint32_t fixed = 0;         /* the vertices that stay in their place */
-    uint32_t before_row = 0;    /* those at places before the standing row */
-    uint32_t to_column = 0;     /* those at places up to the standing column */
+    uint32_t before_row = 0;    /* those at places before the winning row */
+    uint32_t to_column = 0;     /* those at places up to the winning column */
     for (uint32_t i = 0; i < order; i++) {
         const uint32_t bit = UINT32_C(1) << vertices[i];
         place_of[vertices[i]] = i;
@@ -41,10 +40,9 @@ static size_t write_clause(uint32_t order, const uint32_t *restrict edges,
             : x == row ? to_column
             : x <= column ? before_row | at_row
             : before_row;
-        const uint32_t zeros = ~(edges[i] | unknowns[i]);
-        uint32_t named = ((edges[i] & early) | (zeros & images)) & after & ~own;
-        for (; named; named &= named - 1) {
-            const uint32_t j = (uint32_t)__builtin_ctz(named);
+        uint32_t met = (early | images) & after & ~own & ~unknowns[i];
+        for (; met; met &= met - 1) {
+            const uint32_t j = (uint32_t)__builtin_ctz(met);
             const int32_t number = before + (int32_t)(j - i);
             literals[count++] = edges[i] >> j & 1 ? -number : number;
         }

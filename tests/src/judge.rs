@@ -8,7 +8,7 @@ use crate::verdict::{Judgement, Verdict};
 
 /// What the search found.
 pub enum Found {
-    /// A won beginning, filled up to an arrangement, with its standing pair.
+    /// A won beginning, filled up to an arrangement, with its winning pair.
     Won { vertices: [u8; 32], row: usize, column: usize, steps: u32 },
     /// Every reached beginning was tried and none is won.
     Nothing { steps: u32 },
@@ -16,10 +16,12 @@ pub enum Found {
     Cut,
 }
 
-/// What the search reads: rows of edges and of non-edges, the place's blocks.
+/// What the search reads: rows of edges, of unknowns and of non-edges, the
+/// place's blocks.
 struct Board<'a> {
     order: usize,
     edges: &'a [u32; 32],
+    unknowns: &'a [u32; 32],
     non_edges: [u32; 32],
     blocks: [u32; 32],
 }
@@ -39,25 +41,31 @@ impl Board<'_> {
             }
             blocks[place] = block;
         }
-        Board { order, edges: &graph.edges, non_edges, blocks }
+        Board { order, edges: &graph.edges, unknowns: &graph.unknowns, non_edges, blocks }
     }
 
     /// The rest of the walk at length n, from row 2 to the first pair that
     /// decides: that pair, if it wins.
-    fn walk_on(&self, vertices: &[u8; 32]) -> Option<(usize, usize)> {
+    fn walk_on<const DRAWN: bool>(&self, path: &Path) -> Option<(usize, usize)> {
         for row in 1..self.order {
-            let to = vertices[row & 31];
-            let mut edges = self.edges[row] >> row;
-            let non_edges = self.non_edges[usize::from(to & 31)];
+            let to = path.vertex(row);
+            let (mut edges, non_edges) = (self.edges[row] >> row, self.non_edges[to]);
+            if !DRAWN && self.unknowns[row] | self.unknowns[to] != 0 {
+                match self.walk_half_drawn(path, row) {
+                    Row::GoesOn => continue,
+                    Row::Lost => return None,
+                    Row::Won(column) => return Some((row, column)),
+                }
+            }
             for column in row + 1..self.order {
                 edges >>= 1;
-                let other = vertices[column & 31];
+                let other = path.vertex(column);
                 let is_edge = edges & 1;
-                if is_edge == non_edges >> (other & 31) & 1 {
+                if is_edge == non_edges >> other & 1 {
                     if is_edge == 1 {
                         return Some((row, column));
                     }
-                    if !same_pair((usize::from(to), usize::from(other)), (row, column)) {
+                    if !same_pair((to, other), (row, column)) {
                         return None;
                     }
                 }
@@ -66,28 +74,58 @@ impl Board<'_> {
         None
     }
 
-    /// For each place k after this first vertex, the vertices that decide the
-    /// pair (1, k): they win where it is an edge, and lose where it isn't.
-    fn set_stops(&self, stops: &mut [u32; 32], first: u32) {
-        let zeros = self.non_edges[first as usize & 31];
-        for place in 1..self.order {
-            let itself = match first {
-                0 => 1 << place,
-                _ => u32::from(first as usize == place),
-            };
-            let is_edge = self.edges[0] >> place & 1 == 1;
-            stops[place & 31] = if is_edge { zeros } else { !(zeros | itself) };
+    /// The walk along a row where entries are unknown.
+    ///
+    /// No value is carried along. An unknown entry was driven where it was met at
+    /// an earlier pair: to 1 if that was as an image, to 0 if it was as the pair
+    /// itself. So an unknown a counts as 1 where the pair whose image this one is
+    /// comes before it, and an unknown b as 0 where the image does.
+    fn walk_half_drawn(&self, path: &Path, row: usize) -> Row {
+        let (to, from) = (path.vertex(row), path.place(row));
+        for column in row + 1..self.order {
+            let other = path.vertex(column);
+            if same_pair((to, other), (row, column)) {
+                continue;
+            }
+            let comes_before = |x: usize, y: usize| (x.min(y), x.max(y)) < (row, column);
+            let one = is_set(self.edges[row], column)
+                || is_set(self.unknowns[row], column) && comes_before(from, path.place(column));
+            let zero = is_set(self.non_edges[to], other)
+                || is_set(self.unknowns[to], other) && comes_before(to, other);
+            match (one, zero) {
+                (true, true) => return Row::Won(column),
+                (false, false) => return Row::Lost,
+                _ => {}
+            }
         }
+        Row::GoesOn
+    }
+
+    /// Whether a counts as 1 at the pair (1, k), k this place, and the vertices that
+    /// decide it after this first one: they win where a does, and lose where it
+    /// doesn't. Where (1, k) is unknown this depends on the vertices in use.
+    fn stops_at(&self, place: usize, first: usize, used: u32) -> (bool, u32) {
+        let (own_image, earlier_images) = match first {
+            0 => (1 << place, below(place)),
+            _ => (u32::from(first == place), u32::from(first < place)),
+        };
+        let not_zero = self.edges[first] | self.unknowns[first] & !earlier_images;
+        let one = is_set(self.edges[0], place)
+            || is_set(self.unknowns[0], place) && used & own_image != 0;
+        (one, if one { !not_zero } else { not_zero & !own_image })
     }
 
     /// Tries beginnings in dictionary order until one is won or the budget is spent.
     ///
     /// A reached beginning differs from its shorter ones by the pair (1, k) alone,
     /// so a step judges that pair; at length n it walks on through the other rows.
-    fn search(&self, budget: u32) -> Found {
+    /// DRAWN says that the graph has no unknowns, and leaves out what these need.
+    fn search<const DRAWN: bool>(&self, budget: u32) -> Found {
         let last = self.order - 1;
-        let mut vertices = [0u8; 32];
+        let mut path = Path { vertices: [0; 32], places: [0; 32] };
+        // By place k: what decides the pair (1, k), and whether a counts as 1 there.
         let mut stops = [0u32; 32];
+        let mut ones = self.edges[0];
         let mut untried = [0u32; 32];
         let mut used = 0u32;
         let mut place = 0usize;
@@ -99,7 +137,7 @@ impl Board<'_> {
                     return Found::Nothing { steps };
                 }
                 place -= 1;
-                used ^= 1 << vertices[place & 31];
+                used ^= 1 << path.vertex(place);
                 left = untried[place & 31];
                 continue;
             }
@@ -107,25 +145,35 @@ impl Board<'_> {
                 return Found::Cut;
             }
             steps += 1;
-            let vertex = left.trailing_zeros();
+            let vertex = left.trailing_zeros() as usize;
             left &= left - 1;
-            vertices[place & 31] = vertex as u8;
+            path.vertices[place & 31] = vertex as u8;
+            if !DRAWN {
+                path.places[vertex & 31] = place as u8;
+            }
 
-            if stops[place & 31] >> vertex & 1 == 1 {
-                if self.edges[0] >> place & 1 == 1 {
-                    self.fill(&mut vertices, place + 1, used | 1 << vertex);
-                    return Found::Won { vertices, row: 0, column: place, steps };
+            if is_set(stops[place & 31], vertex) {
+                if is_set(ones, place) {
+                    self.fill(&mut path.vertices, place + 1, used | 1 << vertex);
+                    return Found::Won { vertices: path.vertices, row: 0, column: place, steps };
                 }
             } else if place < last {
-                if place == 0 {
-                    self.set_stops(&mut stops, vertex);
-                }
                 untried[place & 31] = left;
                 used |= 1 << vertex;
+                if place == 0 {
+                    for later in 1..self.order {
+                        stops[later & 31] = self.stops_at(later, vertex, used).1;
+                    }
+                }
                 place += 1;
                 left = self.blocks[place & 31] & !used;
-            } else if let Some((row, column)) = self.walk_on(&vertices) {
-                return Found::Won { vertices, row, column, steps };
+                if !DRAWN && is_set(self.unknowns[0], place) {
+                    let (one, deciding) = self.stops_at(place, path.vertex(0), used);
+                    ones = ones & !(1 << place) | u32::from(one) << place;
+                    stops[place & 31] = deciding;
+                }
+            } else if let Some((row, column)) = self.walk_on::<DRAWN>(&path) {
+                return Found::Won { vertices: path.vertices, row, column, steps };
             }
         }
     }
@@ -139,6 +187,33 @@ impl Board<'_> {
             used |= 1 << vertex;
         }
     }
+}
+
+/// What the walk along a row comes to.
+enum Row {
+    Won(usize),
+    Lost,
+    GoesOn,
+}
+
+/// The vertices at the first places, and the place of each vertex that is in use.
+struct Path {
+    vertices: [u8; 32],
+    places: [u8; 32],
+}
+
+impl Path {
+    fn vertex(&self, place: usize) -> usize {
+        usize::from(self.vertices[place & 31] & 31)
+    }
+
+    fn place(&self, vertex: usize) -> usize {
+        usize::from(self.places[vertex & 31])
+    }
+}
+
+fn is_set(mask: u32, vertex: usize) -> bool {
+    mask >> (vertex & 31) & 1 == 1
 }
 
 /// The mask of the vertices below a bound of at most 32.
@@ -187,13 +262,14 @@ pub fn well_formed(graph: &Graph) -> bool {
 
 /// The search alone, without clause, on a graph that is well formed.
 pub fn search(graph: &Graph, budget: u32) -> Found {
-    Board::new(graph).search(budget)
+    let board = Board::new(graph);
+    if graph.fully_drawn() { board.search::<true>(budget) } else { board.search::<false>(budget) }
 }
 
 /// Writes the clause of a certificate and tells how many literals it has.
 ///
-/// The pairs named are gathered in row masks and come out rising. All literals
-/// are false in the graph, so a pair is negated exactly where it is an edge.
+/// The pairs met are gathered in row masks and come out rising. All literals are
+/// false in the graph, so a pair is negated exactly where it is an edge.
 fn write_clause(
     graph: &Graph,
     vertices: &[u8; 32],
@@ -201,32 +277,26 @@ fn write_clause(
     buffer: &mut [i32],
 ) -> usize {
     let order = graph.order as usize;
-    let mut named = [0u32; 32];
+    let mut met = [0u32; 32];
     for row in 0..=last_row {
         let end = if row == last_row { last_column + 1 } else { order };
         for column in row + 1..end {
             let (x, y) = (usize::from(vertices[row]), usize::from(vertices[column]));
-            if same_pair((x, y), (row, column)) {
-                continue;
-            }
-            let is_edge = graph.edges[row] >> column & 1 == 1;
-            if is_edge {
-                named[row] |= 1 << column;
-            }
-            if !is_edge || (row, column) == (last_row, last_column) {
-                named[x.min(y)] |= 1 << x.max(y);
+            if !same_pair((x, y), (row, column)) {
+                met[row] |= 1 << column;
+                met[x.min(y)] |= 1 << x.max(y);
             }
         }
     }
     let mut length = 0;
     let mut before_row = 0;
-    for (row, &columns) in named.iter().enumerate().take(order) {
-        let mut left = columns;
+    for (row, &columns) in met.iter().enumerate().take(order) {
+        let mut left = columns & !graph.unknowns[row];
         while left != 0 {
             let column = left.trailing_zeros() as usize;
             left &= left - 1;
             let number = (before_row + column - row) as i32;
-            let negated = graph.edges[row] >> column & 1 == 1;
+            let negated = is_set(graph.edges[row], column);
             buffer[length] = if negated { -number } else { number };
             length += 1;
         }

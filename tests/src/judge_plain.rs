@@ -1,19 +1,11 @@
 //! Judging as the rules define it, word by word: slow, and plainly right.
 
 use crate::arrangement::{Arrangement, all_permitted, vertex_at};
-use crate::graph::{EDGE, Graph, NON_EDGE, Refusal};
+use crate::graph::{EDGE, Graph, NON_EDGE, Refusal, UNKNOWN};
 use crate::pairs::{pair_count, pair_number, pairs};
 use crate::verdict::{Judgement, Verdict};
 
-/// How a beginning is judged.
-#[derive(Clone, Copy, PartialEq, Eq, Debug)]
-pub enum State {
-    Won,
-    Lost,
-    Open,
-}
-
-type Pair = (u32, u32);
+pub type Pair = (u32, u32);
 
 /// Where a pair goes under the arrangement that a list of vertices begins.
 fn image(beginning: &[u32], (i, j): Pair) -> Pair {
@@ -21,23 +13,36 @@ fn image(beginning: &[u32], (i, j): Pair) -> Pair {
     (x.min(y), x.max(y))
 }
 
-/// Whether the pair holds: a is 1, or b is 0, or the pair is its own image.
-fn holds(graph: &Graph, beginning: &[u32], pair: Pair) -> bool {
-    let to = image(beginning, pair);
-    graph.at(pair.0, pair.1) == EDGE || graph.at(to.0, to.1) == NON_EDGE || to == pair
+/// What a walk comes to.
+#[derive(Clone, Copy, PartialEq, Eq, Debug)]
+pub enum Walk {
+    /// Won at this pair.
+    Won(Pair),
+    Lost,
+    Open,
 }
 
-/// Whether a is 1 and b is 0.
-fn drops(graph: &Graph, beginning: &[u32], pair: Pair) -> bool {
-    let to = image(beginning, pair);
-    graph.at(pair.0, pair.1) == EDGE && graph.at(to.0, to.1) == NON_EDGE
-}
-
-/// The standing pair among these pairs, a start of row order: the first that
-/// drops, if every pair before it holds.
-fn standing(graph: &Graph, beginning: &[u32], on: &[Pair]) -> Option<Pair> {
-    let first = on.iter().position(|&pair| drops(graph, beginning, pair))?;
-    on[..first].iter().all(|&pair| holds(graph, beginning, pair)).then(|| on[first])
+/// The walk along these pairs, a start of row order, and every pair that it met
+/// other than against itself. The entries are carried along, with what they were
+/// driven to.
+fn walked(graph: &Graph, beginning: &[u32], on: &[Pair]) -> (Walk, Vec<Pair>) {
+    let mut entries = *graph;
+    let mut met = Vec::new();
+    for &pair in on {
+        let to = image(beginning, pair);
+        if to == pair {
+            continue;
+        }
+        met.extend([pair, to]);
+        match (entries.at(pair.0, pair.1), entries.at(to.0, to.1)) {
+            (EDGE, NON_EDGE) => return (Walk::Won(pair), met),
+            (EDGE, EDGE) | (NON_EDGE, NON_EDGE) => {}
+            (UNKNOWN, NON_EDGE) => entries.put(pair.0, pair.1, NON_EDGE),
+            (EDGE, UNKNOWN) => entries.put(to.0, to.1, EDGE),
+            _ => return (Walk::Lost, met),
+        }
+    }
+    (Walk::Open, met)
 }
 
 /// The pairs on which a beginning is judged.
@@ -50,16 +55,9 @@ fn pairs_judged(graph: &Graph, beginning: &[u32]) -> Vec<Pair> {
     }
 }
 
-/// Won, lost or open.
-pub fn state(graph: &Graph, beginning: &[u32]) -> State {
-    let on = pairs_judged(graph, beginning);
-    if standing(graph, beginning, &on).is_some() {
-        State::Won
-    } else if on.iter().any(|&pair| !holds(graph, beginning, pair)) {
-        State::Lost
-    } else {
-        State::Open
-    }
+/// How a beginning is judged.
+pub fn state(graph: &Graph, beginning: &[u32]) -> Walk {
+    walked(graph, beginning, &pairs_judged(graph, beginning)).0
 }
 
 /// Every beginning, reached or not, in dictionary order.
@@ -82,7 +80,7 @@ pub fn beginnings(graph: &Graph) -> Vec<Vec<u32>> {
 
 /// Whether all its shorter beginnings are open.
 fn reached(graph: &Graph, beginning: &[u32]) -> bool {
-    (1..beginning.len()).all(|length| state(graph, &beginning[..length]) == State::Open)
+    (1..beginning.len()).all(|length| state(graph, &beginning[..length]) == Walk::Open)
 }
 
 /// The steps needed, and whether the last of them is won.
@@ -90,7 +88,7 @@ pub fn steps_needed(graph: &Graph) -> (u32, bool) {
     let mut steps = 0;
     for beginning in beginnings(graph).iter().filter(|b| reached(graph, b)) {
         steps += 1;
-        if state(graph, beginning) == State::Won {
+        if let Walk::Won(_) = state(graph, beginning) {
             return (steps, true);
         }
     }
@@ -102,29 +100,34 @@ fn whole(graph: &Graph, p: &Arrangement) -> Vec<u32> {
     (1..=graph.order).map(|i| vertex_at(p, i)).collect()
 }
 
-/// The first certificate in dictionary order, with its standing pair.
-pub fn first_certificate(graph: &Graph) -> Option<(Arrangement, Pair)> {
-    let all: Vec<Pair> = pairs(graph.order).collect();
-    all_permitted(graph)
-        .into_iter()
-        .find_map(|p| standing(graph, &whole(graph, &p), &all).map(|pair| (p, pair)))
+/// The walk of an arrangement, along all pairs.
+pub fn walk(graph: &Graph, p: &Arrangement) -> Walk {
+    state(graph, &whole(graph, p))
 }
 
-/// The clause of a certificate: each literal once, by rising pair number.
-pub fn clause(graph: &Graph, p: &Arrangement, last: Pair) -> Vec<i32> {
-    let vertices = whole(graph, p);
-    let number = |(i, j): Pair| pair_number(graph.order, i, j) as i32;
-    let mut literals = Vec::new();
-    for pair in pairs(graph.order).take_while(|&pair| pair != last) {
-        let to = image(&vertices, pair);
-        if to != pair {
-            let is_edge = graph.at(pair.0, pair.1) == EDGE;
-            literals.push(if is_edge { -number(pair) } else { number(to) });
+/// The first certificate in dictionary order, with its winning pair.
+pub fn first_certificate(graph: &Graph) -> Option<(Arrangement, Pair)> {
+    all_permitted(graph).into_iter().find_map(|p| match walk(graph, &p) {
+        Walk::Won(pair) => Some((p, pair)),
+        Walk::Lost | Walk::Open => None,
+    })
+}
+
+/// The clause of a certificate: every entry known in the graph that its walk met
+/// other than against itself, each once, by rising pair number.
+pub fn clause(graph: &Graph, p: &Arrangement) -> Vec<i32> {
+    let all: Vec<Pair> = pairs(graph.order).collect();
+    let (_, met) = walked(graph, &whole(graph, p), &all);
+    let literal = |&(i, j): &Pair| {
+        let number = pair_number(graph.order, i, j) as i32;
+        match graph.at(i, j) {
+            EDGE => Some(-number),
+            NON_EDGE => Some(number),
+            _ => None,
         }
-    }
-    literals.push(-number(last));
-    literals.push(number(image(&vertices, last)));
-    literals.sort_by_key(|literal| (literal.abs(), *literal));
+    };
+    let mut literals: Vec<i32> = met.iter().filter_map(literal).collect();
+    literals.sort_by_key(|literal| literal.abs());
     literals.dedup();
     literals
 }
@@ -146,7 +149,7 @@ pub fn judge_plain(graph: &Graph, budget: u32, buffer: &mut [i32]) -> Judgement 
     let Some((arrangement, (row, column))) = certificate else {
         return Judgement::without(Verdict::Nothing { steps });
     };
-    let literals = clause(graph, &arrangement, (row, column));
+    let literals = clause(graph, &arrangement);
     buffer[..literals.len()].copy_from_slice(&literals);
     let verdict = Verdict::Smaller { row, column, steps };
     Judgement { verdict, arrangement, literals: literals.len() }

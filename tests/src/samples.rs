@@ -46,6 +46,16 @@ pub fn sprinkled(random: &mut Random, order: u32, edges: u32, unknowns: u32) -> 
     graph
 }
 
+/// A full drawing of the graph: of its unknowns so many in a hundred become edges.
+pub fn completed(random: &mut Random, mut graph: Graph, edges: u32) -> Graph {
+    for (i, j) in pairs(graph.order) {
+        if graph.at(i, j) == UNKNOWN {
+            graph.put(i, j, if random.chance(edges) { EDGE } else { NON_EDGE });
+        }
+    }
+    graph
+}
+
 /// A random graph of the order, with any share of edges, unknowns and starts.
 pub fn graph(random: &mut Random, order: u32) -> Graph {
     let unknowns = *random.pick(&[0, 0, 5, 20, 50, 100]);

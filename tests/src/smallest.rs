@@ -1,10 +1,10 @@
-//! Smallest graphs by brute force, for orders up to 6.
+//! Smallest graphs and certificates by brute force, for orders up to 7.
 //!
 //! A full drawing is the number whose bits are its entries, the first pair on
 //! top: then "earlier" is "less".
 
-use crate::arrangement::{all_permitted, vertex_at};
-use crate::graph::{EDGE, Graph};
+use crate::arrangement::{Arrangement, all_permitted, vertex_at};
+use crate::graph::{EDGE, Graph, UNKNOWN};
 use crate::pairs::{pair_count, pair_number, pairs};
 
 /// The bit of a pair in a drawing.
@@ -26,27 +26,56 @@ pub fn all_starts(order: u32) -> impl Iterator<Item = u32> {
     (0..1 << (order - 1)).map(|others| others << 1 | 1)
 }
 
+/// Where the entries of a relabelled drawing come from.
+pub struct Copying(Vec<(u32, u32)>);
+
+impl Copying {
+    pub fn new(order: u32, p: &Arrangement) -> Copying {
+        let from = |(i, j)| pair_bit(order, vertex_at(p, i), vertex_at(p, j));
+        Copying(pairs(order).map(|(i, j)| (pair_bit(order, i, j), from((i, j)))).collect())
+    }
+
+    /// The drawing relabelled.
+    pub fn copy(&self, drawing: u32) -> u32 {
+        let set = self.0.iter().filter(|&&(_, from)| drawing & from != 0);
+        set.fold(0, |copy, &(to, _)| copy | to)
+    }
+
+    /// Whether the drawing becomes strictly earlier.
+    pub fn is_earlier(&self, drawing: u32) -> bool {
+        self.copy(drawing) < drawing
+    }
+}
+
 /// All drawings that no permitted arrangement makes earlier.
 pub fn smallest(order: u32, starts: u32) -> Vec<u32> {
     let blocks = Graph { starts, ..Graph::empty(order) };
-    let moves: Vec<Vec<(u32, u32)>> = all_permitted(&blocks)
-        .iter()
-        .map(|p| {
-            let moved = |(i, j)| pair_bit(order, vertex_at(p, i), vertex_at(p, j));
-            pairs(order).map(|(i, j)| (pair_bit(order, i, j), moved((i, j)))).collect()
-        })
-        .collect();
+    let copyings: Vec<Copying> =
+        all_permitted(&blocks).iter().map(|p| Copying::new(order, p)).collect();
     (0..1 << pair_count(order))
-        .filter(|&drawing| {
-            moves.iter().all(|pairs| {
-                let copy = pairs
-                    .iter()
-                    .filter(|&&(_, from)| drawing & from != 0)
-                    .fold(0, |copy, &(to, _)| copy | to);
-                drawing <= copy
-            })
-        })
+        .filter(|&drawing| !copyings.iter().any(|copying| copying.is_earlier(drawing)))
         .collect()
+}
+
+/// The numbers whose bits are some of these.
+fn subsets(mask: u32) -> impl Iterator<Item = u32> {
+    std::iter::successors(Some(mask), move |&subset| (subset != 0).then(|| (subset - 1) & mask))
+}
+
+/// Every full drawing of a graph: its known entries, and any at the unknown ones.
+pub fn full_drawings(graph: &Graph) -> impl Iterator<Item = u32> {
+    let of = |value| {
+        let those = pairs(graph.order).filter(|&(i, j)| graph.at(i, j) == value);
+        those.fold(0, |mask, (i, j)| mask | pair_bit(graph.order, i, j))
+    };
+    let edges = of(EDGE);
+    subsets(of(UNKNOWN)).map(move |others| edges | others)
+}
+
+/// Whether every full drawing of the graph has an earlier copy by p.
+pub fn is_certificate(graph: &Graph, p: &Arrangement) -> bool {
+    let copying = Copying::new(graph.order, p);
+    full_drawings(graph).all(|drawing| copying.is_earlier(drawing))
 }
 
 /// A clause as the pairs it wants drawn and the pairs it wants undrawn.
@@ -68,5 +97,12 @@ impl Clause {
     /// Whether some literal is true in the drawing.
     pub fn satisfied(&self, drawing: u32) -> bool {
         drawing & self.wanted != 0 || !drawing & self.unwanted != 0
+    }
+
+    /// Every drawing of an order in which no literal is true.
+    pub fn broken_by(&self, order: u32) -> impl Iterator<Item = u32> {
+        let all = (1 << pair_count(order)) - 1;
+        let unwanted = self.unwanted;
+        subsets(all & !(self.wanted | unwanted)).map(move |others| unwanted | others)
     }
 }

@@ -3,7 +3,7 @@
 use oracle::arrangement::{permitted, relabel};
 use oracle::graph::Graph;
 use oracle::judge::{judge, well_formed};
-use oracle::judge_plain::judge_plain;
+use oracle::judge_plain::{self, Walk, judge_plain, walk};
 use oracle::judges::{UNTOUCHED, by_baseline};
 use oracle::pairs::pairs;
 use oracle::random::Random;
@@ -65,8 +65,9 @@ fn fast_and_baseline_on_every_order() {
     }
 }
 
-/// On large orders a certificate is permitted, makes full drawings earlier at
-/// its standing pair, and its literals are false, rising and single.
+/// On every order a certificate is permitted, its pair and its clause are those of the
+/// plain definition, its literals are false, rising and single, and full drawings that
+/// break the clause have an earlier copy by it: those of the graph, and others.
 #[test]
 fn certificates_of_every_order_are_sound() {
     let mut random = Random::new(5);
@@ -78,20 +79,26 @@ fn certificates_of_every_order_are_sound() {
             assert_eq!(literals, [UNTOUCHED; 496]);
             continue;
         };
-        assert!(permitted(&graph, &judgement.arrangement));
-        let copy = relabel(&graph, &judgement.arrangement).unwrap();
-        assert_eq!((graph.at(row, column), copy.at(row, column)), (1, 0));
-        if graph.fully_drawn() {
-            assert!(copy.compare(&graph).is_lt());
-        }
+        let p = &judgement.arrangement;
+        assert!(permitted(&graph, p));
+        assert_eq!(walk(&graph, p), Walk::Won((row, column)));
         let clause = &literals[..judgement.literals];
+        assert_eq!(clause, judge_plain::clause(&graph, p));
         assert!(clause.is_sorted_by(|a, b| a.abs() < b.abs()));
         let all: Vec<_> = pairs(graph.order).collect();
-        for literal in clause {
-            let (i, j) = all[literal.unsigned_abs() as usize - 1];
-            assert_eq!(graph.at(i, j), u32::from(*literal < 0));
-        }
+        let named: Vec<_> =
+            clause.iter().map(|l| (all[l.unsigned_abs() as usize - 1], l)).collect();
+        assert!(named.iter().all(|&((i, j), l)| graph.at(i, j) == u32::from(*l < 0)));
         assert!(literals[judgement.literals..].iter().all(|&literal| literal == UNTOUCHED));
+
+        for share in [0, 30, 60, 100] {
+            let mut other = samples::sprinkled(&mut random, graph.order, share, 0);
+            named.iter().for_each(|&((i, j), l)| other.put(i, j, u32::from(*l < 0)));
+            for drawing in [other, samples::completed(&mut random, graph, share)] {
+                let drawing = Graph { starts: graph.starts, ..drawing };
+                assert!(relabel(&drawing, p).unwrap().compare(&drawing).is_lt(), "{graph:?}");
+            }
+        }
     }
 }
 

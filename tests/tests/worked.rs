@@ -71,6 +71,14 @@ fn with_unknowns() {
     none(Graph::drawn(3, "uuu"), 11);
     none(Graph::drawn(3, "01u"), 11);
     smaller(Graph::drawn(4, "u1uu00"), &[2, 1, 4, 3], (1, 3), &[-2, 5], 13);
+    smaller(Graph::drawn(3, "1u0"), &[2, 3, 1], (1, 2), &[-1, 3], 9);
+}
+
+#[test]
+fn by_driven_values() {
+    smaller(Graph::drawn(4, "0u0101"), &[1, 2, 4, 3], (2, 3), &[3, -4, 5], 6);
+    smaller(Graph::drawn(4, "uu0110"), &[1, 4, 2, 3], (2, 4), &[3, -4, -5, 6], 10);
+    none(Graph::drawn(4, "0u0010"), 44);
 }
 
 #[test]
