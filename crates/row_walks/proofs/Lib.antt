@@ -1,3 +1,5 @@
 pub mod CodeRows
 pub mod AlikeRows
 pub mod RowWords
+pub mod SureRow
+pub mod FixedRow

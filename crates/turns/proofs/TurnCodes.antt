@@ -67,7 +67,7 @@ count-gap zero (suc (suc u)) t a b c = absurd (omega arith)
 count-gap (suc zero) (suc (suc u)) t a b c = absurd (omega arith)
 
 -- at most as where the test holds
-count-most : (e u : ℕ) (t : Bool) → countBy e u t ≤ countBy e u true
+pub count-most : (e u : ℕ) (t : Bool) → countBy e u t ≤ countBy e u true
 unfolding countBy pick
 count-most e u t = at (eqb u 1) t
   where

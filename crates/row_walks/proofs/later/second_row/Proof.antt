@@ -1,6 +1,6 @@
 use borrow.Author.Needs.{needs}
 use Rattle.row_walks.proofs.CodeRows.{earlier-low, earlier-high}
-use Rattle.row_walks.proofs.RowWords.{second-sure, second-bare}
+use Rattle.row_walks.proofs.SureRow.{second-sure, second-bare}
 use Rattle.row_walks.proofs.later.second_row.Statement.{statement}
 use Rattle.row_walks.proofs.later.second_row.Tie as tie
 

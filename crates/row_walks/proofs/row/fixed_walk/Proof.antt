@@ -5,7 +5,7 @@ use Rattle.pairs.specs.Pairs.{alongRow}
 use Rattle.turns.specs.Turns.{walkCode}
 use Rattle.row_walks.specs.RowWords.{turnFixed}
 use Rattle.row_walks.proofs.CodeRows.{within-low, within-high, fixed-goes-on, fixed-ends, row-over}
-use Rattle.row_walks.proofs.RowWords.{fixed-stays}
+use Rattle.row_walks.proofs.FixedRow.{fixed-stays}
 use Rattle.row_walks.proofs.row.fixed_walk.Statement.{statement}
 use Rattle.row_walks.proofs.row.fixed_walk.Tie as tie
 

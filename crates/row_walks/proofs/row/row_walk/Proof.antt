@@ -1,6 +1,7 @@
 use borrow.Author.Needs.{needs}
 use Rattle.row_walks.proofs.CodeRows.{earlier-low, earlier-high}
-use Rattle.row_walks.proofs.RowWords.{fixed-row, words-row}
+use Rattle.row_walks.proofs.RowWords.{words-row}
+use Rattle.row_walks.proofs.FixedRow.{fixed-row}
 use Rattle.row_walks.proofs.row.row_walk.Statement.{statement}
 use Rattle.row_walks.proofs.row.row_walk.Tie as tie
 
