@@ -1,165 +1,57 @@
--- The pass over the pairs writes the clause: the kind of a pair tells whether the pair, or "not" the pair, is a literal.
+-- The pass over the pairs writes the clause: the kind of a pair tells whether the pair, or "not" the pair, is a literal that is kept.
 use Prim.Native.Nat.{ℕ, suc, _+_, _≤_, _<_}
 use native.Mathlib.Omega.{arith}
-use mathlib.Core.Path.{_≡_, refl, sym, ap, ap₂, subst, _∙_}
-use mathlib.Core.Logic.{_≢_, _⊎_, inl, inr, _↔_, ⊎-elim}
-use mathlib.Core.Bool.{Bool, true, false, not}
-use mathlib.Core.List.{List, [], _∷_, _++_, List·Memᴰ, List·Memᴰ·head, List·Memᴰ·eq-of-singleton, List·Memᴰ·append-cases, Memᴰ·append-right}
+use mathlib.Core.Path.{_≡_, refl, sym, ap, _∙_}
+use mathlib.Core.Bool.{Bool, true, false}
+use mathlib.Core.List.{List, [], _∷_, _++_, append-assoc, List·Memᴰ, List·Memᴰ·head, List·Memᴰ·tail, Memᴰ·append-right}
 use lib.IntN.{ℤ}
 use lib.ListN.{length, drop}
 use lib.Dec.{eqb}
 use borrow.Author.Tests.{eqb-true, eq-eqb}
-use Rattle.laws.specs.Compared.{by-below}
 use Rattle.laws.specs.Each.{Each, each-rest}
-use Rattle.laws.specs.ListLaws.{mem-split}
-use Rattle.laws.specs.Pigeonhole.{Injects}
-use Rattle.laws.specs.TestLaws.{fails, not-both-ways, same-test}
+use Rattle.laws.specs.ListLaws.{NoRepeats, mem-split}
+use Rattle.laws.specs.TestLaws.{same-test}
 use Rattle.walk.specs.Walk.{won}
-use Rattle.walk.specs.Clause.{Literal, absent, present, pairIn, FalseIn, among, numbered, clauseAfter, clause}
+use Rattle.walk.specs.Clause.{Literal, absent, present, among, numbered, clauseAfter, clause}
+use Rattle.walk.specs.Meeting.{literalsOf}
 use Rattle.walk.proofs.Clause.{among-listed}
 use Rattle.walk.proofs.Literals.{literals-in-words}
-use Rattle.walk.proofs.Meeting.{won-meets}
-use Rattle.schemes.specs.Judging.{walkOf, literalsBy, writtenBy}
-use Rattle.schemes.proofs.Images.{two-kept, image-two, image-listed}
-use Rattle.plain.specs.Plain.{samePair, pairOfTwo, image}
+use Rattle.dropping.specs.Settled.{Turned, staying, imageGoes, pairGoes}
+use Rattle.dropping.proofs.Pass.{not-later, needed-stays}
+use Rattle.schemes.specs.Judging.{walkOf, neededBy, writtenBy}
+use Rattle.plain.specs.Plain.{samePair, image}
 use Rattle.plain.specs.Before.{rowBefore}
 use Rattle.plain.proofs.Plain.{samePair-tells, rows-lawful}
-use Rattle.plain.proofs.Before.{rows-ordered}
 use Rattle.graph.specs.declared.Graph.{Graph}
 use Rattle.graph.specs.Graph.{graphOf}
 use Rattle.graph.specs.Counts.{entryAt}
 use Rattle.graph.specs.WellFormed.{wellFormed}
 use Rattle.graph.proofs.Formed.{formed}
-use Rattle.arrangements.specs.Arrangement.{at, Reordering, isPermitted}
+use Rattle.arrangements.specs.Arrangement.{Reordering, isPermitted}
 use Rattle.arrangements.proofs.Permits.{permitted}
 use Rattle.composing.specs.Composed.{inverse}
-use Rattle.composing.proofs.Composing.{inverse-before, inverse-after, inverse-reordering}
-use Rattle.pairs.specs.Pairs.{Pair, pair, pairs, Between, numberOf}
-use Rattle.pairs.proofs.PairLaws.{pairs-given, pairs-has, before-smaller}
-use Rattle.judging.specs.Judging.{walkAll, literalsOf, clauseOf}
-use Rattle.judging.specs.Certificates.{UpTo, MetUpTo, in-place, as-image}
-use Rattle.judging.proofs.Literals.{up-to, metBy, met-in-words}
-use Rattle.kinds.specs.Kinds.{reached, kindOf, kindAt}
-use Rattle.kinds.proofs.KindLaws.{reached-not, kind-edge, kind-gap, edge-told, gap-told, Meets, meets-kind, kind-meets}
-use Rattle.clause.specs.Clauses.{writtenFor, writtenAlong, Wrote}
+use Rattle.pairs.specs.Pairs.{Pair, pair, pairs, Between}
+use Rattle.pairs.proofs.PairLaws.{pairs-given, pairs-has}
+use Rattle.judging.specs.Judging.{walkAll, neededOf, clauseOf}
+use Rattle.judging.proofs.Literals.{winning-between}
+use Rattle.kinds.specs.Kinds.{kindAt}
+use Rattle.clause.specs.Clauses.{limit, writtenFor, writtenAlong, Wrote}
+use Rattle.clause.proofs.RowsTurned.{rows-turned}
+use Rattle.clause.proofs.Limits.{kind-edge, kind-gap}
 
--- ---- the order of the pairs is that of their numbers
+-- the literals of a drawing are told by its entries
+module _ (y : Pair → ℕ) (ks : List Pair) (k : Pair) (m : List·Memᴰ k ks) where
+  absent-told : among samePair (absent k) (literalsOf y ks) ≡ eqb (y k) 1
+  absent-told =
+      same-test (among samePair (absent k) (literalsOf y ks)) (eqb (y k) 1)
+      (λ e. eq-eqb (y k) 1 (literals-in-words y ks (absent k) .0 (among-listed samePair-tells (absent k) (literalsOf y ks) .0 e) .1))
+      (λ e. among-listed samePair-tells (absent k) (literalsOf y ks) .1 (literals-in-words y ks (absent k) .1 (m, eqb-true (y k) 1 e)))
 
--- j is k or comes before it exactly where its number is not greater
-reached-up-to : (n : ℕ) (k j : Pair) → Between 1 n k → Between 1 n j → (reached k j ≡ true) ↔ UpTo n j k
-unfolding reached
-reached-up-to n k j a b = (
-  λ h. record { between = b; at-most = by-below (numberOf n k) (numberOf n j) (λ (l : numberOf n k < numberOf n j). absurd (reached-not k j h (tells .1 (earlier l)))) (λ (l : numberOf n j ≤ numberOf n k). l) },
-  λ u. ap not (fails (rowBefore k j) (λ t. omega (arith, u .at-most, before-smaller n j (s .0) (s .1) (s .2) k (tells .0 t)))),
-)
-  where
-    s : (xs : List Pair) × (ys : List Pair) × (pairs n ≡ xs ++ j ∷ ys)
-    s = mem-split j (pairs n) (pairs-has n j b)
-
-    tells : (rowBefore k j ≡ true) ↔ List·Memᴰ k (s .0)
-    tells = rows-ordered n .precedes (s .0) j (s .1) (s .2) k (pairs-has n k a)
-
-    earlier : numberOf n k < numberOf n j → List·Memᴰ k (s .0)
-    earlier l =
-        ⊎-elim (λ (m : List·Memᴰ k (s .0)). m) (λ (m : List·Memᴰ k (j ∷ [])). absurd (omega (arith, ap (numberOf n) (List·Memᴰ·eq-of-singleton m))))
-        (List·Memᴰ·append-cases (s .0) (up-to n j (s .0) (s .1) (s .2) k .1 record { between = a; at-most = omega arith }))
-
--- ---- the pair whose image a pair is
-
-module _ (n : ℕ) where
-  injects : (p : List ℕ) → Reordering n p → Injects n n (at p)
-  injects p r = record { low = r .low; high = r .high; once = r .once }
-
-  -- images under what undoes y on the places undo those under y
-  undone : (x y : List ℕ) → Reordering n y → ((i : ℕ) → 1 ≤ i → i ≤ n → at x (at y i) ≡ i) → (k : Pair) → Between 1 n k → image x (image y k) ≡ k
-  undone x y r e k b =
-      let m = pairs-has n k b in
-      let t = rows-lawful n .places k m in
-      image-two (rows-lawful n) x (at y (k .row)) (at y (k .column)) (two-kept n (at y) (injects y r) t)
-      ∙ ap₂ pairOfTwo (e (k .row) (t .low) (t .high)) (e (k .column) (t .low′) (t .high′)) ∙ rows-lawful n .spelt k m
-
--- ---- kinds and literals
-
-module _ (g : Graph) (p : List ℕ) (high : g .order ≤ 32) (r : Reordering (g .order) p) (k : Pair) (wins : walkAll g p ≡ won k) where
-  abbrev n : ℕ
-  n = g .order
-
-  abbrev source : Pair → Pair
-  source j = image (inverse (g .order) p) j
-
-  winning-between : Between 1 (g .order) k
-  unfolding walkOf
-  winning-between =
-      let u = won-meets samePair-tells (image p) (pairs n) (entryAt g) k wins in
-      pairs-given n k (rw (u .split) (Memᴰ·append-right (u .before) (List·Memᴰ·head refl)))
-
-  module _ (j : Pair) (b : Between 1 (g .order) j) where
-    source-between : Between 1 (g .order) (source j)
-    source-between =
-        pairs-given n (source j) (image-listed (rows-lawful n) (inverse n p) (injects n (inverse n p) (inverse-reordering n p r high)) j (pairs-has n j b))
-
-    image-source : image p (source j) ≡ j
-    image-source = undone n p (inverse n p) (inverse-reordering n p r high) (inverse-before n p r) j b
-
-    source-image : (i : Pair) → Between 1 (g .order) i → j ≡ image p i → i ≡ source j
-    source-image i c e = sym (undone n (inverse n p) p r (inverse-after n p r) i c) ∙ ap (image (inverse n p)) (sym e)
-
-    -- the pairs met up to the winning one, by the tests of a kind
-    abbrev Met : Type 0
-    Met = Meets (samePair (source j) j) (reached k j) (reached k (source j))
-
-    apart : Met → source j ≢ j
-    apart m e = not-both-ways (samePair (source j) j) (ap (λ (i : Pair). samePair i j) e ∙ samePair-tells .itself j) (m .moved)
-
-    met-meets : MetUpTo g p k j → Met
-    met-meets (in-place u moved) =
-        record {
-          moved = fails (samePair (source j) j) (λ t. moved (ap (image p) (sym (samePair-tells .equal (source j) j t)) ∙ image-source));
-          reaches = inl (reached-up-to n k j winning-between b .1 u);
-        }
-    met-meets (as-image i u moved e) =
-        let same = source-image i (u .between) e in
-        record {
-          moved = fails (samePair (source j) j) (λ t. moved (sym e ∙ sym (samePair-tells .equal (source j) j t) ∙ sym same));
-          reaches = inr (reached-up-to n k (source j) winning-between source-between .1 (subst (λ (x : Pair). UpTo n x k) same u));
-        }
-
-    meets-met : Met → MetUpTo g p k j
-    meets-met m =
-        ⊎-elim (λ (h : reached k j ≡ true). in-place (reached-up-to n k j winning-between b .0 h) (λ e. apart m (sym (source-image j b (sym e)))))
-        (λ (h : reached k (source j) ≡ true).
-        as-image (source j) (reached-up-to n k (source j) winning-between source-between .0 h) (λ e. apart m (sym e ∙ image-source)) (sym image-source))
-        (m .reaches)
-
-  -- the kinds by which the clause is written
-  abbrev kinds : Pair → ℕ
-  kinds = kindAt (g .edges) (g .unknowns) (inverse (g .order) p) k
-
-  -- kind c tells that l is a literal, where it is the kind of an entry in which l is false
-  told : (l : Literal Pair) (c : ℕ) → Between 1 (g .order) (pairIn l) → c ≢ 0 → FalseIn (entryAt g) l ↔ (kindOf (entryAt g (pairIn l)) ≡ c)
-      → among samePair l (literalsOf g p) ≡ eqb (kinds (pairIn l)) c
-  unfolding literalsBy kindAt
-  told l c b some fact =
-      same-test (among samePair l (literalsOf g p)) (eqb (kinds j) c)
-      (λ e.
-      let h = literals-in-words (entryAt g) (metBy g p k wins) l .0 (among-listed samePair-tells l (literalsOf g p) .0 e) in
-      eq-eqb (kinds j) c (sym (meets-kind (entryAt g j) _ _ _ (met-meets j b (met-in-words g p k wins j .0 (h .0)))) ∙ fact .0 (h .1)))
-      (λ e.
-      let is = eqb-true (kinds j) c e in
-      let m = kind-meets (entryAt g j) (samePair (source j) j) (reached k j) (reached k (source j)) (λ z. some (sym is ∙ z)) in
-      among-listed samePair-tells l (literalsOf g p) .1
-      (literals-in-words (entryAt g) (metBy g p k wins) l .1 (met-in-words g p k wins j .1 (meets-met j b m), fact .1 (meets-kind (entryAt g j) _ _ _ m ∙ is))))
-    where
-      j : Pair
-      j = pairIn l
-
-  kinds-tell : Each (λ j. (among samePair (absent j) (literalsOf g p) ≡ eqb (kinds j) 1) × (among samePair (present j) (literalsOf g p) ≡ eqb (kinds j) 2)) (pairs (g .order))
-  kinds-tell j m =
-      let b = pairs-given n j m in
-      let a : ℕ = entryAt g j in (
-        told (absent j) 1 b (λ z. omega arith) (λ e. sym (kind-edge a e), edge-told a),
-        told (present j) 2 b (λ z. omega arith) (λ e. sym (kind-gap a e), gap-told a),
-      )
+  present-told : among samePair (present k) (literalsOf y ks) ≡ eqb (y k) 0
+  present-told =
+      same-test (among samePair (present k) (literalsOf y ks)) (eqb (y k) 0)
+      (λ e. eq-eqb (y k) 0 (literals-in-words y ks (present k) .0 (among-listed samePair-tells (present k) (literalsOf y ks) .0 e) .1))
+      (λ e. among-listed samePair-tells (present k) (literalsOf y ks) .1 (literals-in-words y ks (present k) .1 (m, eqb-true (y k) 0 e)))
 
 -- a number is written in front of the rest
 numbered-front : (a p : Bool) (m : ℕ) (rest : List ℤ) → numbered a p m [] ++ rest ≡ numbered a p m rest
@@ -179,12 +71,59 @@ along-clause t lits i (j ∷ ks) h =
     rw (here .0, here .1, along-clause t lits (suc i) ks (each-rest (λ j. (among samePair (absent j) lits ≡ eqb (t j) 1) × (among samePair (present j) lits ≡ eqb (t j) 2)) h))
     (numbered-front (eqb (t j) 1) (eqb (t j) 2) (suc i) (clauseAfter samePair lits (suc i) ks))
 
--- the pass writes the clause of an arrangement that wins
-kinds-clause : (g : Graph) (p : List ℕ) → g .order ≤ 32 → Reordering (g .order) p → (k : Pair) → walkAll g p ≡ won k
-    → writtenAlong (kindAt (g .edges) (g .unknowns) (inverse (g .order) p) k) 0 (pairs (g .order)) ≡ clauseOf g p
-unfolding writtenBy clause
-kinds-clause g p high r k wins =
-    along-clause (kindAt (g .edges) (g .unknowns) (inverse (g .order) p) k) (literalsOf g p) 0 (pairs (g .order)) (kinds-tell g p high r k wins)
+module _ (g : Graph) (p : List ℕ) (high : g .order ≤ 32) (r : Reordering (g .order) p) (row column : ℕ) (wins : walkAll g p ≡ won (pair row column)) where
+  abbrev n : ℕ
+  n = g .order
+
+  abbrev q : List ℕ
+  q = inverse (g .order) p
+
+  abbrev w : Pair
+  w = pair row column
+
+  pub turned : Turned samePair rowBefore (image p) (image (inverse (g .order) p)) (pairs (g .order))
+  turned = rows-turned n p high r
+
+  pub winning-is : Between 1 (g .order) (pair row column)
+  winning-is = winning-between g p w wins
+
+  pub source-is : (k : Pair) → List·Memᴰ k (pairs (g .order)) → Between 1 (g .order) (image (inverse (g .order) p) k)
+  source-is k m = pairs-given n (image q k) (turned .source-in k m)
+
+  -- whether what is at the winning pair, or at its image, goes
+  abbrev pub pairDrops : Bool
+  pairDrops = pairGoes samePair rowBefore (image p) (image (inverse (g .order) p)) (pairs (g .order)) (entryAt g) (pair row column)
+
+  abbrev pub imageDrops : Bool
+  imageDrops = imageGoes samePair rowBefore (image p) (image (inverse (g .order) p)) (pairs (g .order)) (entryAt g) (pair row column)
+
+  -- where the winning pair comes before its image, so does its number
+  rising : rowBefore (pair row column) (image p (pair row column)) ≡ true → (us ys : List Pair) → pairs (g .order) ≡ us ++ image p (pair row column) ∷ ys → ¬ List·Memᴰ (pair row column) ys
+  rising e us ys split m =
+      let s = mem-split w us (turned .order us (image p w) ys split w (pairs-has n w winning-is) .0 e) in
+      let whole : pairs n ≡ s .0 ++ w ∷ (s .1 ++ image p w ∷ ys) = split ∙ ap (λ (l : List Pair). l ++ image p w ∷ ys) (s .2) ∙ append-assoc (s .0) (w ∷ s .1) (image p w ∷ ys) in
+      let once : NoRepeats (s .0 ++ w ∷ (s .1 ++ image p w ∷ ys)) = rw whole at (rows-lawful n .once) in
+      not-later (s .0) w (s .1 ++ image p w ∷ ys) once (Memᴰ·append-right (s .1) (List·Memᴰ·tail m))
+
+  -- the literals that are kept are those of the entries that stay
+  kept-literals : neededOf g p ≡ literalsOf (staying rowBefore (image (inverse (g .order) p)) (entryAt g) (pair row column) pairDrops imageDrops) (pairs (g .order))
+  unfolding neededBy walkOf
+  kept-literals = needed-stays turned (entryAt g) w wins (pairs n) (λ k m. m) (rows-lawful n .once) rising (λ k m. m)
+
+  -- so the pass writes the clause
+  pub kinds-clause : writtenAlong (kindAt (g .edges) (g .unknowns) (inverse (g .order) p) (pair row (limit pairDrops column)) (pair row (limit imageDrops column))) 0 (pairs (g .order)) ≡ clauseOf g p
+  unfolding writtenBy clause
+  kinds-clause =
+      along-clause (kindAt (g .edges) (g .unknowns) q (pair row (limit pairDrops column)) (pair row (limit imageDrops column))) (neededOf g p) 0 (pairs n)
+      (λ k m.
+      let b = pairs-given n k m in
+      rw kept-literals (
+        absent-told kept (pairs n) k m ∙ sym (kind-edge g q row column (winning-is .from-low) (winning-is .rising) pairDrops imageDrops k b (source-is k m)),
+        present-told kept (pairs n) k m ∙ sym (kind-gap g q row column (winning-is .from-low) (winning-is .rising) pairDrops imageDrops k b (source-is k m)),
+      ))
+    where
+      kept : Pair → ℕ
+      kept = staying rowBefore (image (inverse (g .order) p)) (entryAt g) (pair row column) pairDrops imageDrops
 
 -- ---- as the code meets it
 
@@ -197,7 +136,7 @@ module _ (n : ℕ) (e u : List ℕ) (starts : ℕ) (p : List ℕ) (row column : 
   reorders = permitted n starts p order-high fits .reordering
 
   at-between : Between 1 n (pair row column)
-  at-between = winning-between (graphOf n e u starts) p order-high reorders (pair row column) wins
+  at-between = winning-is (graphOf n e u starts) p order-high reorders row column wins
 
   pub row-low : 1 ≤ row
   row-low = at-between .from-low
@@ -208,10 +147,13 @@ module _ (n : ℕ) (e u : List ℕ) (starts : ℕ) (p : List ℕ) (row column : 
   pub column-high : column ≤ n
   column-high = at-between .to-high
 
-  module _ (q : List ℕ) (inverts : q ≡ inverse n p) (old new : List ℤ) (r : ℕ)
-      (done : Wrote (writtenAlong (kindAt e u q (pair row column)) 0 (pairs n)) old 0 new r) where
-    whole : writtenAlong (kindAt e u q (pair row column)) 0 (pairs n) ≡ clauseOf (graphOf n e u starts) p
-    whole = rw inverts (kinds-clause (graphOf n e u starts) p order-high reorders (pair row column) wins)
+  module _ (q : List ℕ) (inverts : q ≡ inverse n p) (pair-gone image-gone : Bool)
+      (pair-is : pair-gone ≡ pairGoes samePair rowBefore (image p) (image q) (pairs n) (entryAt (graphOf n e u starts)) (pair row column))
+      (image-is : image-gone ≡ imageGoes samePair rowBefore (image p) (image q) (pairs n) (entryAt (graphOf n e u starts)) (pair row column))
+      (here source : ℕ) (here-is : here ≡ limit pair-gone column) (source-is : source ≡ limit image-gone column)
+      (old new : List ℤ) (r : ℕ) (done : Wrote (writtenAlong (kindAt e u q (pair row here) (pair row source)) 0 (pairs n)) old 0 new r) where
+    whole : writtenAlong (kindAt e u q (pair row here) (pair row source)) 0 (pairs n) ≡ clauseOf (graphOf n e u starts) p
+    whole = rw (here-is, source-is, pair-is, image-is, inverts) (kinds-clause (graphOf n e u starts) p order-high reorders row column wins)
 
     pub clause-counted : r ≡ length (clauseOf (graphOf n e u starts) p)
     clause-counted = omega (arith, done .counted, ap length whole)

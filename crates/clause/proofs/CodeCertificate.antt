@@ -3,7 +3,7 @@ use Prim.Native.Nat.{ℕ, suc, _+_, _-_, _^_, _≤_, _<_}
 use native.Mathlib.Nat.{lt-of-lt-of-le}
 use native.Mathlib.Omega.{arith}
 use mathlib.Core.Path.{_≡_, refl, sym, ap, ap₂, subst, _∙_}
-use mathlib.Core.List.{List, [], _∷_, _++_}
+use mathlib.Core.List.{List, [], _++_}
 use lib.ListN.{length, getD, take, drop, length-take, take-append-drop}
 use lib.Pow.{pow-mono}
 use lib.Seq.{take-suc, take-take, getD-take}
@@ -18,8 +18,9 @@ use Rattle.graph.specs.WellFormed.{WellFormed}
 use Rattle.arrangements.specs.Arrangement.{at, Permitted}
 use Rattle.composing.specs.Composed.{inverse}
 use Rattle.composing.proofs.Composing.{inverse-after}
-use Rattle.pairs.specs.Pairs.{Pair, pair, alongRow, fromRow, pairs}
-use Rattle.pairs.proofs.PairLaws.{fromRow-split}
+use Rattle.pairs.specs.Pairs.{Pair, pair, pairs}
+use Rattle.trials.specs.After.{fromPair}
+use Rattle.trials.proofs.Pairs.{from-first, from-here, from-down, from-last}
 use Rattle.stops.specs.Used.{usedMask}
 use Rattle.judging.specs.Judging.{walkAll}
 use Rattle.turns.specs.Turns.{turnAt, firstPair, Places}
@@ -65,44 +66,6 @@ used-starts path = refl
 
 pub used-done : (path : List ℕ) (i depth used : ℕ) → used ≡ usedMask (take i path) → i ≤ depth → depth ≤ i → used ≡ usedMask (take depth path)
 used-done path i depth used e a c = let q : i ≡ depth = omega arith in e ∙ ap (λ (m : ℕ). usedMask (take m path)) q
-
--- ---- the pairs from (i, j) on
-
--- in row order
-unfoldable pub fromPair : ℕ → ℕ → ℕ → List Pair
-fromPair n i j = alongRow i j (n + 1 - j) ++ fromRow (i + 1) (n - (i + 1))
-
--- all of them, from (1, 2)
-from-first : (n : ℕ) → 1 ≤ n → fromPair n 1 2 ≡ pairs n
-unfolding fromPair pairs
-from-first n l =
-    let a : n + 1 - 2 ≡ n - 1 = omega arith in
-    let c : n - 2 ≡ n - 1 - 1 = omega arith in
-    rw (a, c) (sym (fromRow-split 1 (n - 1)))
-
--- a pair, then the next one of its row or the first of the next row
-from-here : (n i j : ℕ) → j ≤ n → fromPair n i j ≡ pair i j ∷ fromPair n i (j + 1)
-unfolding fromPair alongRow
-from-here n i j h =
-    let a : n + 1 - j ≡ suc (n + 1 - (j + 1)) = omega arith in
-    let e : j + 1 ≡ suc j = omega arith in
-    rw (a, e)
-
-from-down : (n i : ℕ) → i < n → fromPair n i (n + 1) ≡ fromPair n (i + 1) (i + 1 + 1)
-unfolding fromPair alongRow
-from-down n i h =
-    let a : n + 1 - (n + 1) ≡ 0 = omega arith in
-    let c : n + 1 - (i + 1 + 1) ≡ n - (i + 1) = omega arith in
-    let d : i + 1 + 1 ≡ suc (i + 1) = omega arith in
-    let f : n - suc (i + 1) ≡ n - (i + 1) - 1 = omega arith in
-    rw (a, c, d, f) (fromRow-split (i + 1) (n - (i + 1)))
-
-from-last : (n j : ℕ) → n < j → fromPair n n j ≡ []
-unfolding fromPair alongRow fromRow
-from-last n j h =
-    let a : n + 1 - j ≡ 0 = omega arith in
-    let c : n - (n + 1) ≡ 0 = omega arith in
-    rw (a, c)
 
 -- ---- the first pair that does not go on
 

@@ -13,6 +13,9 @@ ghost use Rattle.judging.specs.Judging.{walkAll, clauseOf};
 ghost use Rattle.graph.specs.Graph.{graphOf};
 ghost use Rattle.clause.specs.Clauses.{writtenFor, writtenAlong, Wrote};
 ghost use Rattle.kinds.specs.Kinds.{kindAt, Ahead};
+use crate::dropped::image_goes;
+use crate::dropped::limit_of;
+use crate::dropped::pair_goes;
 use kinds::columns::columns_of;
 use kinds::columns::first_places;
 use kinds::kind::kind_at;
@@ -43,14 +46,15 @@ fn write_row<'a, 'b>(
     places: &'a [u8; 32],
     n: u32,
     row: u32,
-    column: u32,
+    here: u32,
+    source: u32,
     i: u32,
     columns: u32,
     count: usize,
     literals: &'b mut [i32],
 ) -> usize
-    requires { ⌜ (n ≤ 32) × (isReordering n (now places) ≡ true) × (1 ≤ row) × (1 ≤ column) × (1 ≤ i) × (i < n) × (count < number n i (i + 1)) × (pairCount n ≤ length (now literals)) × (columns < 2 ^ (n + 1 - (i + 1))) × Ahead (kindAt (now edges) (now unknowns) (now places) (pair row column)) n i (i + 1) columns ⌝ }
-    ensures { λ r. ⌜ Wrote (writtenAlong (kindAt (now (edges .entry)) (now (unknowns .entry)) (now (places .entry)) (pair row column)) (number n i (i + 1) - 1) (alongRow i (i + 1) (n + 1 - (i + 1)))) (now (literals .entry)) count (now (literals .exit)) r ⌝ }
+    requires { ⌜ (n ≤ 32) × (isReordering n (now places) ≡ true) × (1 ≤ row) × (1 ≤ here) × (1 ≤ source) × (1 ≤ i) × (i < n) × (count < number n i (i + 1)) × (pairCount n ≤ length (now literals)) × (columns < 2 ^ (n + 1 - (i + 1))) × Ahead (kindAt (now edges) (now unknowns) (now places) (pair row here) (pair row source)) n i (i + 1) columns ⌝ }
+    ensures { λ r. ⌜ Wrote (writtenAlong (kindAt (now (edges .entry)) (now (unknowns .entry)) (now (places .entry)) (pair row here) (pair row source)) (number n i (i + 1) - 1) (alongRow i (i + 1) (n + 1 - (i + 1)))) (now (literals .entry)) count (now (literals .exit)) r ⌝ }
 {
     let mut left = columns;
     let mut j = i + 1;
@@ -60,7 +64,7 @@ fn write_row<'a, 'b>(
         let k = lowest(left);
         j += k;
         m += k;
-        let kind = kind_at(edges, unknowns, places, n, row, column, i, j);
+        let kind = kind_at(edges, unknowns, places, n, row, here, source, i, j);
         written = put(literals, written, m, kind);
         left = (left >> k) >> 1;
         j += 1;
@@ -78,10 +82,12 @@ fn write_pairs<'a, 'b>(
     n: u32,
     row: u32,
     column: u32,
+    here: u32,
+    source: u32,
     literals: &'b mut [i32],
 ) -> usize
-    requires { ⌜ (n ≤ 32) × Reordering n (now path) × (now places ≡ inverse n (now path)) × (1 ≤ row) × (row < column) × (column ≤ n) × (pairCount n ≤ length (now literals)) ⌝ }
-    ensures { λ r. ⌜ Wrote (writtenAlong (kindAt (now (edges .entry)) (now (unknowns .entry)) (now (places .entry)) (pair row column)) 0 (pairs n)) (now (literals .entry)) 0 (now (literals .exit)) r ⌝ }
+    requires { ⌜ (n ≤ 32) × Reordering n (now path) × (now places ≡ inverse n (now path)) × (1 ≤ row) × (row < column) × (column ≤ n) × (1 ≤ here) × (here ≤ column) × (1 ≤ source) × (source ≤ column) × (pairCount n ≤ length (now literals)) ⌝ }
+    ensures { λ r. ⌜ Wrote (writtenAlong (kindAt (now (edges .entry)) (now (unknowns .entry)) (now (places .entry)) (pair row here) (pair row source)) 0 (pairs n)) (now (literals .entry)) 0 (now (literals .exit)) r ⌝ }
 {
     let before = first_places(path, row - 1);
     let at = first_places(path, row);
@@ -89,14 +95,15 @@ fn write_pairs<'a, 'b>(
     let mut i = 1;
     let mut count = 0;
     while i < n {
-        let columns = columns_of(unknowns, places, n, row, column, before, at, up, i);
+        let columns = columns_of(edges, unknowns, places, n, row, column, before, at, up, i);
         count = write_row(
             edges,
             unknowns,
             places,
             n,
             row,
-            column,
+            here,
+            source,
             i,
             columns,
             count,
@@ -108,7 +115,8 @@ fn write_pairs<'a, 'b>(
 }
 
 // Writes the clause of the arrangement, which wins at (row, column), at the start of the buffer, and answers how many
-// literals it has.
+// literals it has. Of what is met only the needed is written, and of that the winning pair's own, or its image's, may be
+// dropped.
 pub fn write_clause<'a, 'b>(
     edges: &'a [u32; 32],
     unknowns: &'a [u32; 32],
@@ -123,5 +131,11 @@ pub fn write_clause<'a, 'b>(
     requires { ⌜ (wellFormed (graphOf n (now edges) (now unknowns) starts) ≡ true) × (isPermitted n starts (now path) ≡ true) × (now places ≡ inverse n (now path)) × (walkAll (graphOf n (now edges) (now unknowns) starts) (now path) ≡ won (pair row column)) × (pairCount n ≤ length (now literals)) ⌝ }
     ensures { λ r. ⌜ (r ≡ length (clauseOf (graphOf n (now (edges .entry)) (now (unknowns .entry)) starts) (now (path .entry)))) × (now (literals .exit) ≡ clauseOf (graphOf n (now (edges .entry)) (now (unknowns .entry)) starts) (now (path .entry)) ++ drop (length (clauseOf (graphOf n (now (edges .entry)) (now (unknowns .entry)) starts) (now (path .entry)))) (now (literals .entry))) ⌝ }
 {
-    write_pairs(edges, unknowns, path, places, n, row, column, literals)
+    let image = image_goes(edges, unknowns, path, places, n, starts, row, column);
+    let pair = pair_goes(edges, unknowns, path, places, n, starts, row, column, image);
+    let here = limit_of(column, pair);
+    let source = limit_of(column, image);
+    write_pairs(
+        edges, unknowns, path, places, n, row, column, here, source, literals,
+    )
 }

@@ -16,7 +16,7 @@ use Rattle.pairs.proofs.PairLaws.{pairs-length}
 use Rattle.judging.specs.declared.Verdict.{Verdict}
 use Rattle.judging.specs.declared.Verdict.the-variants.{Smaller, Nothing, Cut, Refused}
 use Rattle.judging.specs.declared.Judged.{Judged}
-use Rattle.judging.specs.Judging.{literalsOf, clauseOf}
+use Rattle.judging.specs.Judging.{neededOf, clauseOf}
 use Rattle.judging.specs.Answer.{told, without, judgeAnswer, atStart, judgeBuffer}
 use Rattle.judging.specs.InWords.{InWords, malformed, cramped, cut-off, none-smaller, found-smaller}
 use Rattle.judging.proofs.Exact.{judged-in-words}
@@ -24,7 +24,7 @@ use Rattle.judging.proofs.Exact.{judged-in-words}
 -- a clause has at most n(n - 1)/2 literals
 pub clause-fits : (g : Graph) (p : List ℕ) → length (clauseOf g p) ≤ pairCount (g .order)
 unfolding writtenBy
-clause-fits g p = rw (← pairs-length (g .order)) (clause-length samePair (literalsOf g p) (pairs (g .order)))
+clause-fits g p = rw (← pairs-length (g .order)) (clause-length samePair (neededOf g p) (pairs (g .order)))
 
 -- except for "smaller", the arrangement is zero and no literal is written
 pub zeros-beside : (g : Graph) (budget room : ℕ) → told (judgeAnswer g budget room .verdict) .kind ≢ 1

@@ -8,10 +8,12 @@ use lib.ListN.{getD}
 use Rattle.laws.specs.Test.{both, either, pick}
 use Rattle.laws.specs.UpTo.{wordUpTo, listUpTo, allUpTo, sumUpTo}
 use Rattle.walk.specs.Walk.{won, move, ending, put, driven, walk}
-use Rattle.walk.specs.Meeting.{meeting, met, literalAt}
+use Rattle.walk.specs.Meeting.{meeting, met, listed, only, literalAt}
 use Rattle.walk.specs.Meeting
-use Rattle.walk.specs.Clause.{sameLiteral, among, numbered, clauseAfter, clause}
-use Rattle.schemes.specs.Judging.{walkOf, literalsBy, writtenBy}
+use Rattle.walk.specs.Clause.{absent, present, sameLiteral, among, numbered, clauseAfter, clause}
+use Rattle.dropping.specs.Kept.{kept}
+use Rattle.dropping.specs.Enough.{isWon, enough, literals, needed}
+use Rattle.schemes.specs.Judging.{walkOf, literalsBy, neededBy, writtenBy}
 use Rattle.plain.specs.Plain.{samePair, pairOfTwo}
 use Rattle.graph.specs.declared.Graph.{Graph}
 use Rattle.words.specs.Placed.{placed}
@@ -30,24 +32,26 @@ use Rattle.arrangements.proofs.Permits.{permitted}
 use Rattle.judging.specs.Certificates.{Certified}
 use Rattle.judging.proofs.Meaning.{certified-won}
 
--- the entries 1, 1, 0, and an arrangement that isn't its own inverse: the two have different winning pairs and clauses
+-- the entries 0, 1, 1, 0, 0, 0, and an arrangement that isn't its own inverse: the two have different winning pairs and clauses, and of the
+-- literals met some are dropped
 abbrev drawing : Graph
-drawing = drawn 3 1 (λ i j. getD (1 ∷ 1 ∷ 0 ∷ []) (number 3 i j - 1) 0)
+drawing = drawn 4 1 (λ i j. getD (0 ∷ 1 ∷ 1 ∷ 0 ∷ 0 ∷ 0 ∷ []) (number 4 i j - 1) 0)
 
 abbrev turning : List ℕ
-turning = padded (2 ∷ 3 ∷ 1 ∷ [])
+turning = padded (3 ∷ 2 ∷ 4 ∷ 1 ∷ [])
 
-computed : (walkAll drawing turning ≡ won (pair 1 2)) × (clauseOf drawing turning ≡ negsuc 0 ∷ pos 3 ∷ [])
-    × (walkAll drawing (inverse 3 turning) ≡ won (pair 1 3)) × (clauseOf drawing (inverse 3 turning) ≡ negsuc 0 ∷ negsuc 1 ∷ pos 3 ∷ [])
-unfolding both either pick wordUpTo listUpTo move ending put driven walk meeting met literalAt Meeting.literalsOf sameLiteral among numbered clauseAfter clause placed mirrored drawn alongRow fromRow pairs placeOf inverse samePair pairOfTwo padded walkOf literalsBy writtenBy
-computed = (refl, refl, refl, refl)
+computed : (walkAll drawing turning ≡ won (pair 1 3)) × (literalsOf drawing turning ≡ present (pair 1 2) ∷ absent (pair 1 3) ∷ present (pair 2 3) ∷ present (pair 3 4) ∷ [])
+    × (clauseOf drawing turning ≡ negsuc 1 ∷ pos 4 ∷ pos 6 ∷ [])
+    × (walkAll drawing (inverse 4 turning) ≡ won (pair 1 4)) × (clauseOf drawing (inverse 4 turning) ≡ negsuc 1 ∷ pos 5 ∷ pos 6 ∷ [])
+unfolding both either pick wordUpTo listUpTo move ending put driven walk meeting met listed only literalAt Meeting.literalsOf sameLiteral among numbered clauseAfter clause isWon enough kept literals needed placed mirrored drawn alongRow fromRow pairs placeOf inverse samePair pairOfTwo padded walkOf literalsBy neededBy writtenBy
+computed = (refl, refl, refl, refl, refl)
 
 -- the entries 1, unknown, 0, and the arrangement 3, 1, 2: (1, 3) is unknown, is driven to 1 by (1, 2), and wins against (2, 3)
 abbrev halfDrawn : Graph
 halfDrawn = drawn 3 1 (λ i j. getD (1 ∷ 2 ∷ 0 ∷ []) (number 3 i j - 1) 0)
 
 driven-computed : (walkAll halfDrawn (padded (3 ∷ 1 ∷ 2 ∷ [])) ≡ won (pair 1 3)) × (clauseOf halfDrawn (padded (3 ∷ 1 ∷ 2 ∷ [])) ≡ negsuc 0 ∷ pos 3 ∷ [])
-unfolding both either pick wordUpTo listUpTo move ending put driven walk meeting met literalAt Meeting.literalsOf sameLiteral among numbered clauseAfter clause placed mirrored drawn alongRow fromRow pairs samePair pairOfTwo padded walkOf literalsBy writtenBy
+unfolding both either pick wordUpTo listUpTo move ending put driven walk meeting met listed only literalAt Meeting.literalsOf sameLiteral among numbered clauseAfter clause isWon enough kept literals needed placed mirrored drawn alongRow fromRow pairs samePair pairOfTwo padded walkOf literalsBy neededBy writtenBy
 driven-computed = (refl, refl)
 
 half-formed : wellFormed halfDrawn ≡ true

@@ -12,5 +12,6 @@ pub mod Smallest
 pub mod Least
 pub mod Survival
 pub mod Literals
+pub mod Needed
 pub mod Standing
 pub mod Computed

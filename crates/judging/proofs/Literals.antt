@@ -1,5 +1,6 @@
--- The clause of a certificate: its literals are those of the rules, all are false in the graph, and they are written once each, by rising pair number.
-use Prim.Native.Nat.{ℕ, _-_, _≤_, _<_}
+-- The clause of a certificate: the literals met are those of the rules, those of the clause are some of them, all are false in the graph, and
+-- they are written once each, by rising pair number.
+use Prim.Native.Nat.{ℕ, _≤_, _<_}
 use native.Mathlib.Omega.{arith}
 use mathlib.Core.Path.{_≡_, refl, sym, ap, _∙_}
 use mathlib.Core.Logic.{_⊎_, inl, inr, _↔_}
@@ -7,26 +8,26 @@ use mathlib.Core.List.{List, [], _∷_, _++_, map, append-assoc, List·Memᴰ, L
 use lib.IntN.{ℤ, natAbs}
 use Rattle.laws.specs.Each.{Each, each-none, each-cons}
 use Rattle.laws.specs.ListLaws.{NoRepeats, mem-split}
+use Rattle.laws.specs.Pigeonhole.{Injects}
 use Rattle.walk.specs.Walk.{won}
 use Rattle.walk.specs.Meeting.{met}
-use Rattle.walk.specs.Clause.{Literal, absent, present, pairIn, signed, Numbered, Written, RisingAbove, FalseIn}
-use Rattle.walk.proofs.Number.{has-number}
-use Rattle.walk.proofs.Meeting.{won-meets, MetIn, with-images}
-use Rattle.walk.proofs.Literals.{literals-in-words}
-use Rattle.walk.proofs.Clause.{literal-stands, clause-written}
+use Rattle.walk.specs.Clause.{Literal, pairIn, signed, Numbered, RisingAbove, FalseIn}
+use Rattle.walk.proofs.Meeting.{won-meets, MetIn, with-images, met-within}
+use Rattle.dropping.proofs.Enough.{literals-exactly}
+use Rattle.walk.proofs.Clause.{clause-written}
 use Rattle.walk.proofs.Rising.{clause-rising, clause-bounded}
-use Rattle.walk.proofs.Broken.{false-consistent}
 use Rattle.schemes.specs.Judging.{walkOf, literalsBy, writtenBy}
-use Rattle.schemes.proofs.Meaning.{literals-false-in, literals-listed, written-breaks}
+use Rattle.schemes.proofs.Images.{image-listed}
+use Rattle.schemes.proofs.Meaning.{needed-false-in, needed-literals, written-breaks}
 use Rattle.plain.specs.Plain.{samePair, image}
 use Rattle.plain.proofs.Plain.{samePair-tells, rows-lawful}
 use Rattle.graph.specs.declared.Graph.{Graph}
-use Rattle.arrangements.specs.Arrangement.{Reordering}
+use Rattle.arrangements.specs.Arrangement.{at, Reordering}
 use Rattle.pairs.specs.Pairs.{Pair, Between, pairs, pairCount, numberOf}
 use Rattle.graph.specs.Counts.{entryAt}
 use Rattle.pairs.proofs.PairLaws.{pairs-given, pairs-has, pairs-length, split-number, before-smaller}
-use Rattle.judging.specs.Judging.{walkAll, literalsOf, clauseOf}
-use Rattle.judging.specs.Certificates.{UpTo, MetUpTo, in-place, as-image, InClause, not-pair, the-pair}
+use Rattle.judging.specs.Judging.{walkAll, literalsOf, neededOf, clauseOf}
+use Rattle.judging.specs.Certificates.{UpTo, MetUpTo, in-place, as-image}
 use Rattle.judging.specs.Drawings.{BrokenBy}
 
 -- ---- false in the graph, rising, each pair once
@@ -34,13 +35,14 @@ use Rattle.judging.specs.Drawings.{BrokenBy}
 -- all literals are false in the graph
 pub clause-false : (g : Graph) (p : List ℕ) → Reordering (g .order) p → BrokenBy g p g
 clause-false g p r =
-    written-breaks (rows-lawful (g .order)) (entryAt g) p (pairs (g .order)) (λ k m. m) (record { low = r .low; high = r .high; once = r .once }) (entryAt g) .0
-    (literals-false-in (rows-lawful (g .order)) (entryAt g) p)
+    let injects : Injects (g .order) (g .order) (at p) = record { low = r .low; high = r .high; once = r .once } in
+    written-breaks (rows-lawful (g .order)) (pairs (g .order)) (λ k m. m) (entryAt g) p injects (entryAt g) .0
+    (needed-false-in (rows-lawful (g .order)) (pairs (g .order)) (λ k m. m) (entryAt g) p injects)
 
 -- they are written by rising pair number
 pub clause-rises : (g : Graph) (p : List ℕ) → RisingAbove 0 (clauseOf g p)
 unfolding writtenBy
-clause-rises g p = clause-rising samePair (literalsOf g p) (pairs (g .order))
+clause-rises g p = clause-rising samePair (neededOf g p) (pairs (g .order))
 
 -- numbers that rise above m are above m
 rising-above : (m : ℕ) (zs : List ℤ) → RisingAbove m zs → Each (λ x. m < x) (map natAbs zs)
@@ -64,7 +66,7 @@ pub clause-numbers : (g : Graph) (p : List ℕ) → Each (λ z. (1 ≤ natAbs z)
 unfolding writtenBy
 clause-numbers g p z h = (
   rising-above 0 (clauseOf g p) (clause-rises g p) (natAbs z) (Memᴰ·map natAbs h),
-  rw (pairs-length (g .order)) at (clause-bounded samePair (literalsOf g p) (pairs (g .order)) z h),
+  rw (pairs-length (g .order)) at (clause-bounded samePair (neededOf g p) (pairs (g .order)) z h),
 )
 
 -- ---- pairs up to a pair, by number
@@ -137,31 +139,24 @@ module _ (g : Graph) (p : List ℕ) (k : Pair) (wins : walkAll g p ≡ won k) wh
       back few (in-place u moved) = (j, few j .1 u, moved, inl refl)
       back few (as-image i u moved e) = (i, few i .1 u, moved, inr e)
 
-  written-said : (z : ℤ) → Written (literalsOf g p) (pairs (g .order)) z → InClause g p k z
-  unfolding literalsBy
-  written-said z w =
-      let h = literals-in-words (entryAt g) metBy (w .literal) .0 (w .listed) in
-      at (w .literal) (met-in-words (pairIn (w .literal)) .0 (h .0)) (h .1) (w .written ∙ ap (signed (w .literal)) (number-in-pairs n (pairIn (w .literal)) (w .number) (w .place)))
-    where
-      at : (l : Literal Pair) → MetUpTo g p k (pairIn l) → FalseIn (entryAt g) l → z ≡ signed l (numberOf (g .order) (pairIn l)) → InClause g p k z
-      at (absent j) m f e = not-pair j m f e
-      at (present j) m f e = the-pair j m f e
-
   module _ (r : Reordering (g .order) p) where
-    -- a literal of a pair met, false in the graph, stands in the clause
-    met-stands : (l : Literal Pair) → MetUpTo g p k (pairIn l) → FalseIn (entryAt g) l → List·Memᴰ (signed l (numberOf (g .order) (pairIn l))) (clauseOf g p)
-    unfolding literalsBy writtenBy
-    met-stands l m f =
-        let i : List·Memᴰ l (literalsOf g p) = literals-in-words (entryAt g) metBy l .1 (met-in-words (pairIn l) .1 m, f) in
-        let (a, place) = has-number (literals-listed (rows-lawful n) (entryAt g) p (record { low = r .low; high = r .high; once = r .once }) l i) in
-        rw (← number-in-pairs n (pairIn l) a place)
-        (literal-stands samePair-tells (literalsOf g p) (pairs n) l a (false-consistent (literalsOf g p) (entryAt g) (literals-false-in (rows-lawful n) (entryAt g) p)) i place)
+    injects : Injects (g .order) (g .order) (at p)
+    injects = record { low = r .low; high = r .high; once = r .once }
 
-    -- the clause of an arrangement that wins holds exactly the literals of the rules
-    pub clause-in-words : (z : ℤ) → List·Memᴰ z (clauseOf g p) ↔ InClause g p k z
+    -- the literals met are those of every entry that was met and is known in the graph itself, "not" where it is 1
+    pub literals-said : (l : Literal Pair) → List·Memᴰ l (literalsOf g p) ↔ (MetUpTo g p k (pairIn l) × FalseIn (entryAt g) l)
+    unfolding literalsBy
+    literals-said l =
+        let are = literals-exactly samePair-tells (entryAt g) (image p) (pairs n) (pairs n) l in
+        let inside = met-within samePair (image p) (λ j. List·Memᴰ j (pairs n)) (pairs n) (λ j m. m) (image-listed (rows-lawful n) p injects) (entryAt g) in (
+          λ m. (met-in-words (pairIn l) .0 (are .0 m .1), are .0 m .2),
+          λ h. let m = met-in-words (pairIn l) .1 (h .0) in are .1 (inside (pairIn l) m, m, h .1),
+        )
+
+    -- and each number of the clause is that of one of them
+    pub clause-met : Each (λ z. (l : Literal Pair) × List·Memᴰ l (literalsOf g p) × (z ≡ signed l (numberOf (g .order) (pairIn l)))) (clauseOf g p)
     unfolding writtenBy
-    clause-in-words z = (λ h. written-said z (clause-written samePair-tells (literalsOf g p) (pairs n) z h), from)
-      where
-        from : InClause g p k z → List·Memᴰ z (clauseOf g p)
-        from (not-pair j m f e) = rw e (met-stands (absent j) m f)
-        from (the-pair j m f e) = rw e (met-stands (present j) m f)
+    clause-met z m =
+        let w = clause-written samePair-tells (neededOf g p) (pairs n) z m in
+        (w .literal, needed-literals (rows-lawful n) (pairs n) (λ j i. i) (entryAt g) p injects (w .literal) (w .listed),
+        w .written ∙ ap (signed (w .literal)) (number-in-pairs n (pairIn (w .literal)) (w .number) (w .place)))

@@ -51,44 +51,59 @@ copy-earlier h w p =
 
 -- ---- drawings
 
--- every full drawing of entries is that of a graph
-module _ (g : Graph) (w : WellFormed g) (H : Pair → ℕ) (full : FullOn (byRows (g .order)) H) where
+-- every drawing of entries 0, 1 and 2 is that of a graph
+module _ (g : Graph) (w : WellFormed g) (H : Pair → ℕ) (small : Each (λ k. H k ≤ 2) (pairs (g .order))) where
   pub graphWith : Graph
   graphWith = drawn (g .order) (g .starts) (λ i j. H (pair i j))
 
-  small : (i j : ℕ) → 1 ≤ i → i < j → j ≤ g .order → H (pair i j) ≤ 1
-  small i j li l hj = full (pair i j) (pairs-has (g .order) (pair i j) (record { from-low = li; rising = l; to-high = hj }))
+  small-at : (i j : ℕ) → 1 ≤ i → i < j → j ≤ g .order → H (pair i j) ≤ 2
+  small-at i j li l hj = small (pair i j) (pairs-has (g .order) (pair i j) (record { from-low = li; rising = l; to-high = hj }))
 
   with-entry : (i j : ℕ) → 1 ≤ i → i < j → j ≤ g .order → entry graphWith i j ≡ H (pair i j)
   unfolding graphWith mirrored
   with-entry i j li l hj =
-      drawn-entry (g .order) (g .starts) (λ i j. H (pair i j)) (λ a b la c hb. omega (arith, small a b la c hb)) i j li (omega arith) (omega arith) hj
+      drawn-entry (g .order) (g .starts) (λ i j. H (pair i j)) (λ a b la c hb. omega (arith, small-at a b la c hb)) i j li (omega arith) (omega arith) hj
       ∙ pick-true (ltb i j) _ _ (lt-ltb i j l)
 
-  with-order : graphWith .order ≡ g .order
+  pub with-order : graphWith .order ≡ g .order
   unfolding graphWith drawn
   with-order = refl
 
-  with-starts : graphWith .starts ≡ g .starts
+  pub with-starts : graphWith .starts ≡ g .starts
   unfolding graphWith drawn
   with-starts = refl
 
-  with-formed : WellFormed graphWith
+  pub with-formed : WellFormed graphWith
   unfolding graphWith
-  with-formed =
-      drawn-formed (g .order) (g .starts) (λ i j. H (pair i j)) (w .order-low) (w .order-high) (w .first-starts) (w .no-start-past)
-      (λ i j li l hj. omega (arith, small i j li l hj))
+  with-formed = drawn-formed (g .order) (g .starts) (λ i j. H (pair i j)) (w .order-low) (w .order-high) (w .first-starts) (w .no-start-past) small-at
 
   pub with-entries : Each (λ k. entryAt graphWith k ≡ H k) (pairs (g .order))
   with-entries k m = let b = pairs-given (g .order) k m in with-entry (k .row) (k .column) (b .from-low) (b .rising) (b .to-high)
 
-  pub with-full : FullGraph (g .order) (g .starts) graphWith
-  with-full =
+-- a full one that of a full drawing
+module _ (g : Graph) (w : WellFormed g) (H : Pair → ℕ) (full : FullOn (byRows (g .order)) H) where
+  small : Each (λ k. H k ≤ 2) (pairs (g .order))
+  small k m = omega (arith, full k m)
+
+  pub fullWith : Graph
+  fullWith = graphWith g w H small
+
+  pub full-entries : Each (λ k. entryAt fullWith k ≡ H k) (pairs (g .order))
+  unfolding fullWith
+  full-entries = with-entries g w H small
+
+  pub full-with : FullGraph (g .order) (g .starts) fullWith
+  unfolding fullWith
+  full-with =
       record {
-        formed = with-formed;
-        full = fully-drawn-by graphWith with-formed (λ i j li l hj. let h : j ≤ g .order = rw with-order at hj in omega (arith, with-entry i j li l h, small i j li l h));
-        order-is = with-order;
-        starts-are = with-starts;
+        formed = with-formed g w H small;
+        full = fully-drawn-by (graphWith g w H small) (with-formed g w H small)
+            (λ i j li l hj.
+            let h : j ≤ g .order = rw (with-order g w H small) at hj in
+            let m = pairs-has (g .order) (pair i j) (record { from-low = li; rising = l; to-high = h }) in
+            omega (arith, with-entries g w H small (pair i j) m, full (pair i j) m));
+        order-is = with-order g w H small;
+        starts-are = with-starts g w H small;
       }
 
 -- ---- certificates
@@ -115,9 +130,9 @@ module _ (g : Graph) (w : WellFormed g) (p : List ℕ) (permitted : Permitted (g
       to c =
           means .1
           (λ H f x.
-          let h : Graph = graphWith g w H f in
-          let d : FullGraph (g .order) (g .starts) h = with-full g w H f in
-          let same : Each (λ k. entryAt h k ≡ H k) (pairs (g .order)) = with-entries g w H f in
+          let h : Graph = fullWith g w H f in
+          let d : FullGraph (g .order) (g .starts) h = full-with g w H f in
+          let same : Each (λ k. entryAt h k ≡ H k) (pairs (g .order)) = full-entries g w H f in
           let e : Comes (byRows (g .order)) (copyBy (byRows (g .order)) p (entryAt h)) (entryAt h) = rw (d .order-is) at (copy-earlier h (d .formed) p .1 (c .earlier h (record { drawing = d; agrees = λ k m l. same k m ∙ x k m l }))) in
           earlier-alike (pairs (g .order)) (copyBy (byRows (g .order)) p (entryAt h)) (entryAt h) (copyBy (byRows (g .order)) p H) H
           (λ k m. sym (same _ (image-listed (rows-lawful (g .order)) p (permitted-arranges (g .order) (g .starts) p permitted .reorders) k m))) (λ k m. sym (same k m)) e)

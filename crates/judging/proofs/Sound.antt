@@ -9,7 +9,7 @@ use lib.ListN.{length, take, drop}
 use lib.Seq.{take-append-seam}
 use Rattle.walk.specs.Clause.{BreaksClause}
 use Rattle.walk.specs.Earlier.{LexLess}
-use Rattle.schemes.proofs.Meaning.{sound-literals, written-breaks}
+use Rattle.schemes.proofs.Meaning.{sound-needed, written-breaks}
 use Rattle.plain.proofs.Plain.{rows-lawful}
 use Rattle.rows.specs.Rows.{blockOf}
 use Rattle.graph.specs.declared.Graph.{Graph}
@@ -44,8 +44,8 @@ module _ (g : Graph) (w : WellFormed g) (p : List ℕ) (c : Certified g p) where
   pub sound : (h : Graph) → FullGraph (g .order) (g .starts) h → BrokenBy g p h → EarlierCopy h p
   sound h f b =
       let d = certified-certifies g w p c in
-      let lits = written-breaks (rows-lawful (g .order)) (entryAt g) p (pairs (g .order)) (λ k m. m) (d .permitted .reorders) (entryAt h) .1 b in
-      let e = sound-literals (rows-lawful (g .order)) (blockOf (g .starts)) (entryAt g) p d (entryAt h) (λ j m. f .full .known (j .row) (j .column)) lits in
+      let lits = written-breaks (rows-lawful (g .order)) (pairs (g .order)) (λ k m. m) (entryAt g) p (d .permitted .reorders) (entryAt h) .1 b in
+      let e = sound-needed (rows-lawful (g .order)) (pairs (g .order)) (λ k m. m) (blockOf (g .starts)) (entryAt g) p d (entryAt h) (λ j m. f .full .known (j .row) (j .column)) lits in
       record {
         permitted = rw (f .order-is, f .starts-are) (c .permitted);
         earlier = copy-earlier h (f .formed) p .0 (rw (f .order-is) (e .earlier));

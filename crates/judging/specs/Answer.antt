@@ -1,5 +1,5 @@
 -- The full answer of judging, and what the lent buffer holds afterwards.
-use Prim.Native.Nat.{ℕ, _+_}
+use Prim.Native.Nat.{ℕ}
 use mathlib.Core.List.{List, _++_}
 use lib.IntN.{ℤ}
 use lib.ListN.{length, drop, replicate}

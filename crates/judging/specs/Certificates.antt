@@ -1,11 +1,12 @@
--- Certificates of a graph and the literals of their clauses, in the rules' words.
+-- Certificates of a graph, what their walks meet, and what literals say, in the rules' words.
 use Prim.Native.Nat.{ℕ, _≤_}
 use mathlib.Core.Path.{_≡_}
 use mathlib.Core.Logic.{_⊎_, _≢_}
 use mathlib.Core.List.{List}
-use lib.IntN.{ℤ, pos, negℤ}
 use Rattle.laws.specs.Each.{Each}
+use Rattle.laws.specs.Test.{pick}
 use Rattle.walk.specs.Walk.{won}
+use Rattle.walk.specs.Clause.{Literal, absent, present, among}
 use Rattle.beginnings.specs.Order.{Before}
 use Rattle.graph.specs.declared.Graph.{Graph}
 use Rattle.graph.specs.Graph.{relabelled}
@@ -14,7 +15,7 @@ use Rattle.arrangements.specs.Arrangement.{Permitted}
 use Rattle.pairs.specs.Pairs.{Pair, Between, pairs, numberOf}
 use Rattle.graph.specs.Counts.{entryAt}
 use Rattle.judging.specs.Order.{FullyDrawn, EarlierGraph}
-use Rattle.plain.specs.Plain.{image}
+use Rattle.plain.specs.Plain.{samePair, image}
 use Rattle.judging.specs.Judging.{walkAll}
 
 -- ---- full drawings
@@ -56,7 +57,13 @@ pub data MetUpTo (g : Graph) (p : List ℕ) (k j : Pair) : Type 0 where
   in-place : UpTo (g .order) j k → image p j ≢ j → MetUpTo g p k j
   as-image : (i : Pair) → UpTo (g .order) i k → image p i ≢ i → j ≡ image p i → MetUpTo g p k j
 
--- the rules' sentence: every entry that was met and is known in the graph itself, "not" where it is 1
-pub data InClause (g : Graph) (p : List ℕ) (k : Pair) (z : ℤ) : Type 0 where
-  not-pair : (j : Pair) → MetUpTo g p k j → entryAt g j ≡ 1 → z ≡ negℤ (pos (numberOf (g .order) j)) → InClause g p k z
-  the-pair : (j : Pair) → MetUpTo g p k j → entryAt g j ≡ 0 → z ≡ pos (numberOf (g .order) j) → InClause g p k z
+-- what the literals say of the entry at k: 1 where "not k" is one of them, 0 where k is, else nothing
+unfoldable pub saidAt : List (Literal Pair) → Pair → ℕ
+saidAt lits k = pick (among samePair (absent k) lits) 1 (pick (among samePair (present k) lits) 0 2)
+
+-- h, of g's order and blocks, knows only what the literals say
+pub record KnowsOnly (g : Graph) (lits : List (Literal Pair)) (h : Graph) : Type 0 where
+  pub formed : WellFormed h
+  pub order-is : h .order ≡ g .order
+  pub starts-are : h .starts ≡ g .starts
+  pub entries : Each (λ k. entryAt h k ≡ saidAt lits k) (pairs (g .order))

@@ -1,11 +1,12 @@
 -- Full drawings, their permitted copies, and what a clause does to them.
 use Prim.Native.Nat.{ℕ}
 use mathlib.Core.Path.{_≡_}
-use mathlib.Core.Logic.{_⊎_}
+use mathlib.Core.Logic.{_⊎_, _≢_}
 use mathlib.Core.List.{List}
 use lib.IntN.{ℤ}
 use lib.ListN.{length, take}
-use Rattle.walk.specs.Clause.{BreaksClause}
+use Rattle.laws.specs.Each.{Each}
+use Rattle.walk.specs.Clause.{FalseAt, BreaksClause}
 use Rattle.graph.specs.declared.Graph.{Graph}
 use Rattle.judging.specs.Order.{EarlierGraph}
 use Rattle.arrangements.specs.Arrangement.{Permitted}
@@ -37,6 +38,14 @@ pub record LeastBy (h : Graph) (q : List ℕ) : Type 0 where
 -- every literal of p's clause for g is false in h
 abbrev pub BrokenBy : Graph → List ℕ → Graph → Type 0
 BrokenBy g p h = BreaksClause (pairs (g .order)) (clauseOf g p) (entryAt h)
+
+-- the number z can't be dropped from p's clause for g: there is a full drawing in which every other number is false, and whose copy by p
+-- is not earlier
+pub record Needs (g : Graph) (p : List ℕ) (z : ℤ) : Type 0 where
+  pub drawing : Graph
+  pub full : FullGraph (g .order) (g .starts) drawing
+  pub others-false : Each (λ y. y ≢ z → FalseAt (pairs (g .order)) (entryAt drawing) y) (clauseOf g p)
+  pub not-earlier : ¬ EarlierGraph (relabelled drawing p) drawing
 
 -- judging g says "smaller"
 abbrev pub SaysSmaller : Graph → ℕ → List ℤ → Type 0

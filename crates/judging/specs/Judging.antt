@@ -7,7 +7,7 @@ use Rattle.walk.specs.Walk.{Outcome}
 use Rattle.walk.specs.Clause.{Literal}
 use Rattle.beginnings.specs.Search.{Judgement, Found}
 use Rattle.beginnings.specs.Certificate.{completed}
-use Rattle.schemes.specs.Judging.{walkOf, literalsBy, writtenBy}
+use Rattle.schemes.specs.Judging.{walkOf, literalsBy, neededBy, writtenBy}
 use Rattle.schemes.specs.Judging
 use Rattle.plain.specs.Plain.{byRows}
 use Rattle.graph.specs.declared.Graph.{Graph}
@@ -21,9 +21,14 @@ use Rattle.graph.specs.Counts.{entryAt}
 abbrev pub walkAll : Graph → List ℕ → Outcome Pair
 walkAll g p = walkOf (byRows (g .order)) (entryAt g) p
 
--- the literals of p's clause: of every entry known in g itself that was met, other than against itself, up to and with the winning pair
+-- the literals that it meets, by rising pair number: of every entry known in g itself that was met, other than against itself, up to and
+-- with the winning pair
 abbrev pub literalsOf : Graph → List ℕ → List (Literal Pair)
-literalsOf g p = literalsBy (byRows (g .order)) (entryAt g) p
+literalsOf g p = literalsBy (byRows (g .order)) (pairs (g .order)) (entryAt g) p
+
+-- the literals of p's clause: from the highest pair number down, each is dropped where p still wins by what the remaining ones say
+abbrev pub neededOf : Graph → List ℕ → List (Literal Pair)
+neededOf g p = neededBy (byRows (g .order)) (pairs (g .order)) (entryAt g) p
 
 -- the clause as it is written: by the numbers of the pairs, which rise
 abbrev pub clauseOf : Graph → List ℕ → List ℤ

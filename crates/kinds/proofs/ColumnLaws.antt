@@ -1,8 +1,8 @@
 -- Which columns of a row are looked at when a clause is written: all at which something is written.
 use Prim.Native.Nat.{ℕ, _+_, _-_, _/_, _%_, _^_, _≤_, _<_, min, max}
 use native.Mathlib.Omega.{arith}
-use mathlib.Core.Path.{_≡_, sym, ap, _∙_}
-use mathlib.Core.Logic.{_≢_, _⊎_, inl, inr}
+use mathlib.Core.Path.{_≡_, ap, _∙_}
+use mathlib.Core.Logic.{_≢_, ⊎-elim}
 use mathlib.Core.Bool.{true}
 use mathlib.Core.List.{List}
 use lib.Bits.{bitAnd, bitOr}
@@ -19,12 +19,13 @@ use Rattle.composing.specs.Composed.{inverse}
 use Rattle.pairs.specs.Pairs.{pair}
 use Rattle.arrangements.proofs.Permits.{reordering-tested}
 use Rattle.composing.proofs.Composing.{inverse-before, inverse-reordering}
-use Rattle.plain.specs.Plain.{samePair, pairOfTwo, image}
+use Rattle.plain.specs.Plain.{pairOfTwo, image}
+use Rattle.plain.specs.Before.{rowBefore}
 use Rattle.plain.proofs.Plain.{two-rising, two-falling}
 use Rattle.turns.specs.Turns.{allMarks, Within}
 use Rattle.kinds.specs.Kinds.{reached, kindAt, FirstIn, Before, Firsts, SourcesBy, Ahead}
 use Rattle.turns.proofs.Ones.{all-bits}
-use Rattle.kinds.proofs.KindLaws.{reached-rows, reached-columns, some-known, meets-kind, kind-meets}
+use Rattle.kinds.proofs.KindLaws.{reached-rows, reached-columns, reached-further, WrittenEdge, WrittenGap, kind-some}
 
 -- ---- the lowest bits of a word
 
@@ -156,26 +157,40 @@ module _ (n i mask : ℕ) (small : n ≤ 32) where
   after-has d h b = after-bit d ∙ omega (arith, low-bits n (i + d) small h)
 
 -- the columns that are looked at: nothing is written at another one
-module _ (w q : List ℕ) (r c n i u before at-row up first source doubts rest : ℕ) (small : n ≤ 32) (b : Before n (r - 1) q before) (a : Before n r q at-row) (t : Before n c q up)
-    (low : 1 ≤ i) (place : u ≡ at q i) (f : Firsts (pair r c) i first) (s : SourcesBy r c u before at-row up source) (unknown : doubts ≡ row w i)
-    (less : rest ≡ bitOr first source - bitAnd (bitOr first source) doubts) where
-  -- a reached one, or one whose source is reached, unless it is unknown
-  looked-at : (j : ℕ) → 1 ≤ j → j ≤ n → bit (row w i) (j - 1) ≡ 0 → (reached (pair r c) (pair i j) ≡ true) ⊎ (reached (pair r c) (pairOfTwo (at q i) (at q j)) ≡ true)
-      → bit rest (j - 1) ≡ 1
-  looked-at j l h known m = rw (less, unknown) (bit-of-without (bitOr first source) (row w i) (j - 1) ∙ omega (arith, known, bit-of-or first source (j - 1), in-one m))
-    where
-      in-one : (reached (pair r c) (pair i j) ≡ true) ⊎ (reached (pair r c) (pairOfTwo (at q i) (at q j)) ≡ true) → max (bit first (j - 1)) (bit source (j - 1)) ≡ 1
-      in-one (inl k) = omega (arith, f .has j l (omega arith) k, bit-small source (j - 1))
-      in-one (inr k) = omega (arith, s .are n q small b a t .has j l h (rw place k), bit-small first (j - 1))
+module _ (e w q : List ℕ) (r c n i u before at-row up first source ones gaps doubts rest : ℕ) (small : n ≤ 32) (b : Before n (r - 1) q before) (a : Before n r q at-row) (t : Before n c q up)
+    (start : 1 ≤ r) (low : 1 ≤ i) (place : u ≡ at q i) (f : Firsts (pair r c) i first) (s : SourcesBy r c u before at-row up source) (edges : ones ≡ row e i)
+    (edgeless : gaps ≡ source - bitAnd source ones) (unknown : doubts ≡ row w i) (less : rest ≡ bitOr (bitAnd first ones) gaps - bitAnd (bitOr (bitAnd first ones) gaps) doubts) where
+  looked-at : (k : ℕ) → max (min (bit first k) (bit ones k)) (bit source k - bit ones k) ≡ 1 → bit doubts k ≡ 0 → bit rest k ≡ 1
+  looked-at k m d =
+      let g : bit gaps k ≡ bit source k - bit ones k = rw edgeless (bit-of-without source ones k) in
+      rw less (bit-of-without (bitOr (bitAnd first ones) gaps) doubts k ∙ omega (arith, bit-of-or (bitAnd first ones) gaps k, bit-of-and first ones k))
 
-  pub columns-ahead : (e : List ℕ) → Ahead (kindAt e w q (pair r c)) n i (i + 1) (bitAnd rest (allMarks / 2 ^ (32 - n)) / 2 ^ i)
+  module _ (here up-to : ℕ) (l : 1 ≤ here) (h : here ≤ c) (l′ : 1 ≤ up-to) (h′ : up-to ≤ c) (j : ℕ) (low′ : 1 ≤ j) (high : j ≤ n) where
+    known : (x : ℕ) → entryIn e w i j ≡ x → x ≤ 1 → (bit ones (j - 1) ≡ x) × (bit doubts (j - 1) ≡ 0)
+    known x k m = rw (edges, unknown) (omega (arith, bit-small (row e i) (j - 1), bit-small (row w i) (j - 1)), omega (arith, bit-small (row e i) (j - 1), bit-small (row w i) (j - 1)))
+
+    edge-looked-at : WrittenEdge (entryIn e w i j) (rowBefore (pair i j) (image q (pair i j))) (reached (pair r here) (pair i j)) → bit rest (j - 1) ≡ 1
+    edge-looked-at m =
+        let k = known 1 (m .edge) (omega arith) in
+        looked-at (j - 1) (omega (arith, k .0, f .has j low′ (omega arith) (reached-further r here c (pair i j) start l h (m .reaches)), bit-small source (j - 1))) (k .1)
+
+    gap-looked-at : WrittenGap (entryIn e w i j) (rowBefore (image q (pair i j)) (pair i j)) (reached (pair r up-to) (image q (pair i j))) → bit rest (j - 1) ≡ 1
+    gap-looked-at m =
+        let k = known 0 (m .gap) (omega arith) in
+        looked-at (j - 1)
+        (omega (arith, k .0, s .are n q small b a t .has j low′ high (rw place (reached-further r up-to c (image q (pair i j)) start l′ h′ (m .reaches))), bit-small first (j - 1))) (k .1)
+
+  pub columns-ahead : (here up-to : ℕ) → 1 ≤ here → here ≤ c → 1 ≤ up-to → up-to ≤ c
+      → Ahead (kindAt e w q (pair r here) (pair r up-to)) n i (i + 1) (bitAnd rest (allMarks / 2 ^ (32 - n)) / 2 ^ i)
   unfolding kindAt
-  columns-ahead e =
+  columns-ahead here up-to l h l′ h′ =
       record {
-        has = λ d h z.
+        has = λ d high z.
             let j : ℕ = i + 1 + d in
             let index : i + 1 + d - 1 ≡ i + d = omega arith in
-            let m = kind-meets (entryIn e w i j) (samePair (image q (pair i j)) (pair i j)) (reached (pair r c) (pair i j)) (reached (pair r c) (image q (pair i j))) z in
-            let known = some-known (entryIn e w i j) (λ k. z (sym (meets-kind (entryIn e w i j) _ _ _ m) ∙ k)) in
-            after-has n i rest small d (omega arith) (rw index at (looked-at j (omega arith) h (omega arith) (m .reaches)));
+            after-has n i rest small d (omega arith)
+            (rw index
+            at
+            (⊎-elim (edge-looked-at here up-to l h l′ h′ j (omega arith) high) (gap-looked-at here up-to l h l′ h′ j (omega arith) high)
+            (kind-some (entryIn e w i j) (rowBefore (pair i j) (image q (pair i j))) (reached (pair r here) (pair i j)) (rowBefore (image q (pair i j)) (pair i j)) (reached (pair r up-to) (image q (pair i j))) z)));
       }

@@ -2,21 +2,21 @@
 use Prim.Native.Nat.{ℕ, zero, suc, _≤_, _<_}
 use native.Mathlib.Omega.{arith}
 use mathlib.Core.Path.{_≡_, refl, sym, ap, _∙_}
-use mathlib.Core.Logic.{_≢_, _⊎_, inl, inr}
+use mathlib.Core.Logic.{_≢_, _⊎_, inl, inr, ⊎-elim}
 use mathlib.Core.Bool.{Bool, true, false, not}
 use mathlib.Core.List.{List}
 use borrow.Author.Tests.{ne-eqb}
 use Rattle.laws.specs.Compared.{by-below}
-use Rattle.laws.specs.Test.{either, pick}
-use Rattle.laws.specs.TestLaws.{not-both-ways, either-second}
+use Rattle.laws.specs.Test.{both, pick}
+use Rattle.laws.specs.TestLaws.{fails, not-both-ways, both-hold, pick-true, pick-false}
 use Rattle.rows.specs.Rows.{entryIn}
 use Rattle.arrangements.specs.Arrangement.{at}
 use Rattle.pairs.specs.Pairs.{Pair, pair}
-use Rattle.plain.specs.Plain.{samePair, pairOfTwo}
+use Rattle.plain.specs.Plain.{pairOfTwo}
 use Rattle.plain.specs.Before.{rowBefore}
 use Rattle.plain.proofs.Plain.{two-rising, two-falling}
-use Rattle.plain.proofs.Before.{row-less, row-along}
-use Rattle.kinds.specs.Kinds.{reached, kindOf, kindBy, kindAt}
+use Rattle.plain.proofs.Before.{row-told, row-less, row-along}
+use Rattle.kinds.specs.Kinds.{reached, kindBy, kindAt}
 
 -- ---- the order of the pairs
 
@@ -47,86 +47,100 @@ module _ (last k : Pair) (low : 1 ≤ last .row) (low′ : 1 ≤ last .column) (
       by-below (last .column) (k .column) (λ (l : last .column < k .column). absurd (reached-not last k h (row-along last k low low′ (sym e) l)))
       (λ (l : k .column ≤ last .column). l)
 
+-- and does not come after a later pair of the last one's row
+pub reached-further : (row here column : ℕ) (k : Pair) → 1 ≤ row → 1 ≤ here → here ≤ column → reached (pair row here) k ≡ true → reached (pair row column) k ≡ true
+unfolding reached
+reached-further row here column k low low′ h e = ap not (fails (rowBefore (pair row column) k) (λ t. reached-not (pair row here) k e (sooner (row-told (pair row column) k t))))
+  where
+    sooner : (row < k .row) ⊎ ((row ≡ k .row) × (column < k .column)) → rowBefore (pair row here) k ≡ true
+    sooner (inl l) = row-less (pair row here) k low low′ l
+    sooner (inr l) = row-along (pair row here) k low low′ (l .0) (omega (arith, l .1))
+
+-- (i, j) before the pair of u and v
+module _ (i j u v : ℕ) (r : Bool) where
+  pub before-rising : u < v → r ≡ rowBefore (pair i j) (pair u v) → r ≡ rowBefore (pair i j) (pairOfTwo u v)
+  before-rising l e = e ∙ ap (rowBefore (pair i j)) (sym (two-rising u v l))
+
+  pub before-falling : v ≤ u → r ≡ rowBefore (pair i j) (pair v u) → r ≡ rowBefore (pair i j) (pairOfTwo u v)
+  before-falling l e = e ∙ ap (rowBefore (pair i j)) (sym (two-falling u v l))
+
 -- ---- the kind of a pair
 
--- of an entry
-module _ (a : ℕ) where
-  pub kind-edge : a ≡ 1 → 1 ≡ kindOf a
-  unfolding kindOf pick
-  kind-edge e = rw e
-
-  pub kind-gap : a ≡ 0 → 2 ≡ kindOf a
-  unfolding kindOf pick
-  kind-gap e = rw e
-
-  pub kind-unknown : a ≢ 1 → a ≢ 0 → 0 ≡ kindOf a
-  unfolding kindOf pick
-  kind-unknown o z = rw (ne-eqb a 1 o, ne-eqb a 0 z)
-
-unknown-past : (a : ℕ) → 0 ≡ kindOf (suc (suc a))
-unknown-past a = kind-unknown (suc (suc a)) (λ e. omega arith) (λ e. omega arith)
-
--- what it tells of the entry
-pub edge-told : (a : ℕ) → kindOf a ≡ 1 → a ≡ 1
-unfolding kindOf pick
-edge-told zero e = absurd (omega arith)
-edge-told (suc zero) e = refl
-edge-told (suc (suc a)) e = absurd (omega (arith, unknown-past a))
-
-pub gap-told : (a : ℕ) → kindOf a ≡ 2 → a ≡ 0
-unfolding kindOf pick
-gap-told zero e = refl
-gap-told (suc zero) e = absurd (omega arith)
-gap-told (suc (suc a)) e = absurd (omega (arith, unknown-past a))
-
-pub some-known : (a : ℕ) → kindOf a ≢ 0 → a ≤ 1
-unfolding kindOf pick
-some-known zero d = omega arith
-some-known (suc zero) d = omega arith
-some-known (suc (suc a)) d = absurd (d (sym (unknown-past a)))
-
--- a pair that is not its own image, where it is reached or its source is
-pub record Meets (own here source : Bool) : Type 0 where
-  pub moved : own ≡ false
-  pub reaches : (here ≡ true) ⊎ (source ≡ true)
-
--- has the kind of its entry
-pub meets-kind : (a : ℕ) (own here source : Bool) → Meets own here source → kindOf a ≡ kindBy a own here source
-unfolding kindBy pick either
-meets-kind a own here source m = at (m .reaches)
-  where
-    at : (here ≡ true) ⊎ (source ≡ true) → kindOf a ≡ kindBy a own here source
-    at (inl l) = rw (m .moved, l)
-    at (inr s) = rw (m .moved, either-second here source s)
-
--- and any other has kind 0
-pub kind-meets : (a : ℕ) (own here source : Bool) → kindBy a own here source ≢ 0 → Meets own here source
-unfolding kindBy pick either
-kind-meets a true here source d = absurd (d refl)
-kind-meets a false true source d = record { moved = refl; reaches = inl refl }
-kind-meets a false false true d = record { moved = refl; reaches = inr refl }
-kind-meets a false false false d = absurd (d refl)
-
--- by the tests in their order
-module _ (a : ℕ) (own here source : Bool) where
-  pub kind-own : own ≡ true → 0 ≡ kindBy a own here source
+-- by its entry
+module _ (a : ℕ) (first here late source : Bool) where
+  edge-kind : a ≡ 1 → kindBy a first here late source ≡ pick (both first here) 1 0
   unfolding kindBy pick
-  kind-own e = rw e
+  edge-kind e = rw e
 
-  module _ (moved : own ≡ false) where
-    pub kind-here : (c : ℕ) → here ≡ true → c ≡ kindOf a → c ≡ kindBy a own here source
-    kind-here c l e = e ∙ meets-kind a own here source record { moved = moved; reaches = inl l }
+  gap-kind : a ≡ 0 → kindBy a first here late source ≡ pick (both late source) 2 0
+  unfolding kindBy pick
+  gap-kind e = rw e
 
-    pub kind-source : (c : ℕ) → source ≡ true → c ≡ kindOf a → c ≡ kindBy a own here source
-    kind-source c l e = e ∙ meets-kind a own here source record { moved = moved; reaches = inr l }
+  unknown-kind : a ≢ 1 → a ≢ 0 → kindBy a first here late source ≡ 0
+  unfolding kindBy pick
+  unknown-kind o z = rw (ne-eqb a 1 o, ne-eqb a 0 z)
 
-    pub kind-late : here ≡ false → source ≡ false → 0 ≡ kindBy a own here source
-    unfolding kindBy pick either
-    kind-late l s = rw (moved, l, s)
+-- an edge that is written, and a gap that is
+pub record WrittenEdge (a : ℕ) (first here : Bool) : Type 0 where
+  pub edge : a ≡ 1
+  pub comes-first : first ≡ true
+  pub reaches : here ≡ true
 
--- from the entry and the tests of (i, j)
-pub kind-is : (e w q : List ℕ) (last : Pair) (i j a u v : ℕ) (own here source : Bool) (r : ℕ) → a ≡ entryIn e w i j → u ≡ at q i → v ≡ at q j
-    → own ≡ samePair (pairOfTwo u v) (pair i j) → here ≡ reached last (pair i j) → source ≡ reached last (pairOfTwo u v) → r ≡ kindBy a own here source
-    → r ≡ kindAt e w q last (pair i j)
-unfolding kindAt
-kind-is e w q last i j a u v own here source r pa pu pv po ph ps h = h ∙ rw (pa, po, ph, ps, pu, pv)
+pub record WrittenGap (a : ℕ) (late source : Bool) : Type 0 where
+  pub gap : a ≡ 0
+  pub comes-late : late ≡ true
+  pub reaches : source ≡ true
+
+-- where something is written, it is one of these
+pub kind-some : (a : ℕ) (first here late source : Bool) → kindBy a first here late source ≢ 0 → WrittenEdge a first here ⊎ WrittenGap a late source
+unfolding kindBy pick both
+kind-some zero first here true true d = inr record { gap = refl; comes-late = refl; reaches = refl }
+kind-some zero first here true false d = absurd (d refl)
+kind-some zero first here false source d = absurd (d refl)
+kind-some (suc zero) true true late source d = inl record { edge = refl; comes-first = refl; reaches = refl }
+kind-some (suc zero) true false late source d = absurd (d refl)
+kind-some (suc zero) false here late source d = absurd (d refl)
+kind-some (suc (suc a)) first here late source d = absurd (d (unknown-kind (suc (suc a)) first here late source (λ e. omega arith) (λ e. omega arith)))
+
+-- which one its kind tells
+module _ (a : ℕ) (first here late source : Bool) where
+  pub kind-edge : WrittenEdge a first here → kindBy a first here late source ≡ 1
+  kind-edge w = edge-kind a first here late source (w .edge) ∙ pick-true (both first here) 1 0 (both-hold first here (w .comes-first) (w .reaches))
+
+  pub kind-gap : WrittenGap a late source → kindBy a first here late source ≡ 2
+  kind-gap w = gap-kind a first here late source (w .gap) ∙ pick-true (both late source) 2 0 (both-hold late source (w .comes-late) (w .reaches))
+
+  pub edge-told : kindBy a first here late source ≡ 1 → WrittenEdge a first here
+  edge-told e =
+      ⊎-elim (λ (w : WrittenEdge a first here). w) (λ (w : WrittenGap a late source). absurd (omega (arith, kind-gap w)))
+      (kind-some a first here late source (λ z. omega arith))
+
+  pub gap-told : kindBy a first here late source ≡ 2 → WrittenGap a late source
+  gap-told e =
+      ⊎-elim (λ (w : WrittenEdge a first here). absurd (omega (arith, kind-edge w))) (λ (w : WrittenGap a late source). w)
+      (kind-some a first here late source (λ z. omega arith))
+
+-- the kind of (i, j), from its entry, the places of its vertices and the tests
+module _ (e w q : List ℕ) (lastPair lastImage : Pair) (i j a u v : ℕ) (pa : a ≡ entryIn e w i j) (pu : u ≡ at q i) (pv : v ≡ at q j) where
+  is-kind : (r : ℕ)
+      → kindBy a (rowBefore (pair i j) (pairOfTwo u v)) (reached lastPair (pair i j)) (rowBefore (pairOfTwo u v) (pair i j)) (reached lastImage (pairOfTwo u v)) ≡ r
+      → r ≡ kindAt e w q lastPair lastImage (pair i j)
+  unfolding kindAt
+  is-kind r h = sym (rw (pa, pu, pv) at h)
+
+  module _ (edge : a ≡ 1) (b : Bool) (met : b ≡ both (rowBefore (pair i j) (pairOfTwo u v)) (reached lastPair (pair i j))) where
+    pub edge-written : b ≡ true → 1 ≡ kindAt e w q lastPair lastImage (pair i j)
+    edge-written h = is-kind 1 (edge-kind a _ _ _ _ edge ∙ pick-true _ 1 0 (sym met ∙ h))
+
+    pub edge-left : b ≡ false → 0 ≡ kindAt e w q lastPair lastImage (pair i j)
+    edge-left h = is-kind 0 (edge-kind a _ _ _ _ edge ∙ pick-false _ 1 0 (sym met ∙ h))
+
+  module _ (gap : a ≡ 0) (b : Bool) (met : b ≡ both (rowBefore (pairOfTwo u v) (pair i j)) (reached lastImage (pairOfTwo u v))) where
+    pub gap-written : b ≡ true → 2 ≡ kindAt e w q lastPair lastImage (pair i j)
+    gap-written h = is-kind 2 (gap-kind a _ _ _ _ gap ∙ pick-true _ 2 0 (sym met ∙ h))
+
+    pub gap-left : b ≡ false → 0 ≡ kindAt e w q lastPair lastImage (pair i j)
+    gap-left h = is-kind 0 (gap-kind a _ _ _ _ gap ∙ pick-false _ 2 0 (sym met ∙ h))
+
+  pub unknown-left : a ≢ 1 → a ≢ 0 → 0 ≡ kindAt e w q lastPair lastImage (pair i j)
+  unknown-left o z = is-kind 0 (unknown-kind a _ _ _ _ o z)

@@ -5,30 +5,27 @@ use mathlib.Core.Logic.{_≢_}
 use mathlib.Core.Bool.{Bool, true, not}
 use mathlib.Core.List.{List}
 use lib.Dec.{eqb}
-use Rattle.laws.specs.Test.{either, pick}
+use Rattle.laws.specs.Test.{both, pick}
 use Rattle.laws.specs.Bit.{bit}
 use Rattle.rows.specs.Rows.{entryIn}
 use Rattle.arrangements.specs.Arrangement.{at}
 use Rattle.pairs.specs.Pairs.{Pair, pair}
-use Rattle.plain.specs.Plain.{samePair, pairOfTwo, image}
+use Rattle.plain.specs.Plain.{pairOfTwo, image}
 use Rattle.plain.specs.Before.{rowBefore}
 
 -- the pair k is the last one or comes before it
 unfoldable pub reached : Pair → Pair → Bool
 reached last k = not (rowBefore last k)
 
--- what is written for an entry a that was met: 1 for "not" the pair, 2 for the pair, 0 for nothing
-unfoldable pub kindOf : ℕ → ℕ
-kindOf a = pick (eqb a 1) 1 (pick (eqb a 0) 2 0)
+-- what is written for a pair with entry a: 1 for "not" the pair where a is 1, the pair comes before its source and is reached; 2 for the
+-- pair where a is 0, its source comes before it and is reached; else 0 for nothing
+unfoldable pub kindBy : ℕ → (first here late source : Bool) → ℕ
+kindBy a first here late source = pick (eqb a 1) (pick (both first here) 1 0) (pick (eqb a 0) (pick (both late source) 2 0) 0)
 
--- the same for a pair with entry a, by whether it is its own image, is reached, and is the image of a reached one
-unfoldable pub kindBy : ℕ → Bool → Bool → Bool → ℕ
-kindBy a own here source = pick own 0 (pick (either here source) (kindOf a) 0)
-
--- the same at pair k of the rows, where q is the inverse of the arrangement and last its winning pair
-unfoldable pub kindAt : List ℕ → List ℕ → List ℕ → Pair → Pair → ℕ
-kindAt edges unknowns q last k =
-    kindBy (entryIn edges unknowns (k .row) (k .column)) (samePair (image q k) k) (reached last k) (reached last (image q k))
+-- the same at pair k of the rows, where q is the inverse of the arrangement; pairs are reached up to lastPair, and sources up to lastImage
+unfoldable pub kindAt : List ℕ → List ℕ → List ℕ → (lastPair lastImage : Pair) → Pair → ℕ
+kindAt edges unknowns q lastPair lastImage k =
+    kindBy (entryIn edges unknowns (k .row) (k .column)) (rowBefore k (image q k)) (reached lastPair k) (rowBefore (image q k) k) (reached lastImage (image q k))
 
 -- ---- which pairs of a row are looked at
 

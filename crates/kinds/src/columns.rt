@@ -1,7 +1,6 @@
 // The columns of a row at which something may be written.
 ghost use mathlib.Core.Path.{_≡_};
 ghost use mathlib.Core.Bool.{true};
-ghost use mathlib.Core.List.{List};
 ghost use Prim.Native.Nat.{ℕ, _+_, _-_, _^_, _≤_, _<_};
 ghost use Rattle.arrangements.specs.Arrangement.{isReordering};
 ghost use Rattle.pairs.specs.Pairs.{pair};
@@ -58,10 +57,11 @@ fn sources(row: u32, column: u32, u: u32, before: u32, at: u32, up: u32) -> u32
     before
 }
 
-// The columns after i at which row i may be written, column i + 1 as the lowest bit: those reached or whose source is
-// reached, less the unknown ones. The masks have the vertices at the places before the winning pair's row, up to it, and
-// up to its column.
+// The columns after i at which row i may be written, column i + 1 as the lowest bit: those reached that have an edge, and
+// those whose source is reached that have none, less the unknown ones. The masks have the vertices at the places before
+// the winning pair's row, up to it, and up to its column.
 pub fn columns_of<'a>(
+    edges: &'a [u32; 32],
     unknowns: &'a [u32; 32],
     places: &'a [u8; 32],
     n: u32,
@@ -73,11 +73,12 @@ pub fn columns_of<'a>(
     i: u32,
 ) -> u32
     requires { ⌜ (n ≤ 32) × (isReordering n (now places) ≡ true) × (1 ≤ row) × (row < column) × (column ≤ n) × Before n (row - 1) (now places) before × Before n row (now places) at × Before n column (now places) up × (1 ≤ i) × (i < n) ⌝ }
-    ensures { λ r. ⌜ (r < 2 ^ (n + 1 - (i + 1))) × ((edges : List ℕ) → Ahead (kindAt edges (now (unknowns .entry)) (now (places .entry)) (pair row column)) n i (i + 1) r) ⌝ }
+    ensures { λ r. ⌜ (r < 2 ^ (n + 1 - (i + 1))) × ((here source : ℕ) → 1 ≤ here → here ≤ column → 1 ≤ source → source ≤ column → Ahead (kindAt (now (edges .entry)) (now (unknowns .entry)) (now (places .entry)) (pair row here) (pair row source)) n i (i + 1) r) ⌝ }
 {
     let u = vertex_of(n, places, i);
     let first = firsts(i, row, column);
     let source = sources(row, column, u, before, at, up);
-    let columns = without(first | source, row_of(unknowns, i));
+    let ones = row_of(edges, i);
+    let columns = without((first & ones) | without(source, ones), row_of(unknowns, i));
     (columns & (0xFFFF_FFFF >> (32 - n))) >> i
 }

@@ -4,7 +4,7 @@ use Prim.Native.Nat.{ℕ, zero, suc, _≤_, _<_}
 use native.Mathlib.Omega.{arith}
 use mathlib.Core.Path.{_≡_, refl, sym, ap, _∙_}
 use mathlib.Core.Logic.{_⊎_, inl, inr}
-use mathlib.Core.List.{List}
+use mathlib.Core.List.{List, List·Memᴰ}
 use Rattle.laws.specs.Each.{Each}
 use Rattle.laws.specs.Pigeonhole.{Injects}
 use Rattle.laws.specs.UpToLaws.{list-at}
@@ -12,7 +12,7 @@ use Rattle.walk.specs.Clause.{Breaks}
 use Rattle.walk.proofs.Order.{earlier-irreflexive, earlier-transitive, earlier-trichotomy, earlier-alike}
 use Rattle.beginnings.specs.Beginning.{at}
 use Rattle.schemes.specs.Scheme.{Scheme, image, Lawful}
-use Rattle.schemes.specs.Judging.{Arranges, identity, composed, FullOn, copyBy, Comes, literalsBy, stepsFor, Certified, EarlierCopy, Smallest, AtOrBefore, LeastBy}
+use Rattle.schemes.specs.Judging.{Arranges, identity, composed, FullOn, copyBy, Comes, neededBy, stepsFor, Certified, EarlierCopy, Smallest, AtOrBefore, LeastBy}
 use Rattle.schemes.proofs.Images.{image-alike, image-listed, image-identity, image-composed}
 use Rattle.schemes.proofs.Arranging.{identity-arranges, composed-arranges}
 use Rattle.schemes.proofs.Inverse.{inverse, inverse-before, inverse-arranges}
@@ -134,8 +134,8 @@ module _ {P : Type 0} {n : ℕ} {s : Scheme P} (lawful : Lawful n s) (block : �
       go (inr e) (inl f) = λ k i. sym (f k i)
       go (inr e) (inr f) = absurd (earlier-irreflexive (copyBy s q H) (s .pairs) (earlier-transitive (copyBy s q H) (copyBy s t H) (copyBy s q H) (s .pairs) e f))
 
-  -- it breaks the literals of no certificate for the scheme, order and blocks
-  pub least-survives : (H : P → ℕ) → FullOn s H → (q : List ℕ) → LeastBy n s block H q → (v : P → ℕ) (p : List ℕ) → Certified n s block v p
-      → ¬ Breaks (literalsBy s v p) (copyBy s q H)
-  least-survives H f q l v p c =
-      smallest-unbroken lawful block (copyBy s q H) (copy-full H f q (l .permitted .reorders)) (least-smallest H q l) v p c
+  -- it breaks the clause of no certificate for the scheme, order and blocks, by any numbering that has every compared pair
+  pub least-survives : (numbering : List P) → Each (λ k. List·Memᴰ k numbering) (s .pairs) → (H : P → ℕ) → FullOn s H → (q : List ℕ) → LeastBy n s block H q
+      → (v : P → ℕ) (p : List ℕ) → Certified n s block v p → ¬ Breaks (neededBy s numbering v p) (copyBy s q H)
+  least-survives numbering all H f q l v p c =
+      smallest-unbroken lawful block numbering all (copyBy s q H) (copy-full H f q (l .permitted .reorders)) (least-smallest H q l) v p c

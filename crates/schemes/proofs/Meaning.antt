@@ -3,19 +3,19 @@
 use Prim.Native.Nat.{ℕ}
 use mathlib.Core.Path.{_≡_}
 use mathlib.Core.Logic.{_↔_}
-use mathlib.Core.List.{List, List·Memᴰ}
+use mathlib.Core.List.{List, _∷_, _++_, map, List·Memᴰ}
 use Rattle.laws.specs.Each.{Each}
 use Rattle.laws.specs.Pigeonhole.{Injects}
 use Rattle.walk.specs.Walk.{won}
 use Rattle.beginnings.specs.Beginning.{at}
-use Rattle.walk.proofs.Meaning.{won-means, won-more}
-use Rattle.walk.specs.Meeting.{met}
-use Rattle.walk.proofs.Meeting.{met-within, literals-false, literals-sound}
-use Rattle.walk.proofs.Literals.{literals-in-words}
-use Rattle.walk.specs.Clause.{pairIn, Breaks, BreaksClause}
+use Rattle.walk.proofs.Meaning.{Unbeaten, won-means, won-more}
+use Rattle.walk.specs.Meeting.{only}
+use Rattle.walk.proofs.Meeting.{met-within}
+use Rattle.walk.specs.Clause.{Literal, pairIn, Breaks, BreaksClause}
 use Rattle.walk.proofs.Broken.{clause-breaks, false-consistent}
+use Rattle.dropping.proofs.Enough.{literals-exactly, needed-met, needed-false, needed-sound, needed-each}
 use Rattle.schemes.specs.Scheme.{Scheme, image, Listed, Lawful}
-use Rattle.schemes.specs.Judging.{Arranges, FullOn, Has, copyBy, Comes, walkOf, literalsBy, writtenBy, Certified, EarlierCopy}
+use Rattle.schemes.specs.Judging.{Arranges, FullOn, Has, copyBy, Comes, walkOf, literalsBy, neededBy, writtenBy, Certified, EarlierCopy}
 use Rattle.schemes.proofs.Images.{image-listed}
 
 module _ {P : Type 0} {n : ℕ} {s : Scheme P} (lawful : Lawful n s) where
@@ -41,30 +41,45 @@ module _ {P : Type 0} {n : ℕ} {s : Scheme P} (lawful : Lawful n s) where
         let r = won-more (lawful .tells) (Listed s) (image s p) (s .pairs) (λ k m. m) (image-listed lawful p (c .permitted .reorders)) v w x (c .pair, c .wins) in
         record { permitted = c .permitted; pair = r .0; wins = r .1 }
 
-    module _ (v : P → ℕ) (p : List ℕ) (c : Certified n s block v p) (H : P → ℕ) (full : FullOn s H) where
-      -- a full drawing that breaks the literals met has by the certificate an earlier copy
-      pub sound-literals : Breaks (literalsBy s v p) H → EarlierCopy n s block H p
-      unfolding walkOf literalsBy
-      sound-literals b =
-          record {
-            permitted = c .permitted;
-            earlier = literals-sound (lawful .tells) (Listed s) (image s p) (s .pairs) (λ k m. m) (image-listed lawful p (c .permitted .reorders)) v (c .pair) (c .wins) H full b;
-          }
+  -- ---- the clause, by any numbering that has every compared pair
 
-  -- the literals met are false in v and of compared pairs
-  module _ (v : P → ℕ) (p : List ℕ) where
-    pub literals-false-in : Breaks (literalsBy s v p) v
-    unfolding literalsBy
-    literals-false-in = literals-false v (met (s .same) (image s p) (s .pairs) v)
+  module _ (numbering : List P) (all : Each (λ k. List·Memᴰ k numbering) (s .pairs)) (v : P → ℕ) (p : List ℕ) (r : Injects n n (at p)) where
+    closed : Each (λ k. Listed s (image s p k)) (s .pairs)
+    closed = image-listed lawful p r
 
-    pub literals-listed : Injects n n (at p) → Each (λ l. Listed s (pairIn l)) (literalsBy s v p)
+    -- its literals are false in v and of compared pairs
+    pub needed-false-in : Breaks (neededBy s numbering v p) v
+    unfolding neededBy
+    needed-false-in = needed-false (lawful .tells) (Listed s) (image s p) (s .pairs) (λ k m. m) closed v numbering all
+
+    pub needed-literals : Each (λ l. List·Memᴰ l (literalsBy s numbering v p)) (neededBy s numbering v p)
+    unfolding neededBy literalsBy
+    needed-literals = needed-met (lawful .tells) (Listed s) (image s p) (s .pairs) (λ k m. m) closed v numbering all
+
+    pub needed-listed : Each (λ l. Listed s (pairIn l)) (neededBy s numbering v p)
     unfolding literalsBy
-    literals-listed r l m =
-        met-within (s .same) (image s p) (Listed s) (s .pairs) (λ k i. i) (image-listed lawful p r) v (pairIn l) (literals-in-words v (met (s .same) (image s p) (s .pairs) v) l .0 m .0)
+    needed-listed l m =
+        met-within (s .same) (image s p) (Listed s) (s .pairs) (λ k i. i) closed v (pairIn l)
+        (literals-exactly (lawful .tells) v (image s p) (s .pairs) numbering l .0 (needed-literals l m) .1)
 
     -- so a drawing breaks what is written exactly where it breaks the literals
-    pub written-breaks : (numbering : List P) → Each (λ k. List·Memᴰ k numbering) (s .pairs) → Injects n n (at p) → (H : P → ℕ)
-        → Breaks (literalsBy s v p) H ↔ BreaksClause numbering (writtenBy s numbering v p) H
+    pub written-breaks : (H : P → ℕ) → Breaks (neededBy s numbering v p) H ↔ BreaksClause numbering (writtenBy s numbering v p) H
     unfolding writtenBy
-    written-breaks numbering all r H =
-        clause-breaks (lawful .tells) (literalsBy s v p) numbering H (false-consistent (literalsBy s v p) v literals-false-in) (λ l m. all (pairIn l) (literals-listed r l m))
+    written-breaks H =
+        clause-breaks (lawful .tells) (neededBy s numbering v p) numbering H (false-consistent (neededBy s numbering v p) v needed-false-in) (λ l m. all (pairIn l) (needed-listed l m))
+
+    -- without any one of them some full drawing breaks all others and its copy does not come earlier
+    pub needed-spares : (xs : List (Literal P)) (l : Literal P) (ys : List (Literal P)) → neededBy s numbering v p ≡ xs ++ l ∷ ys
+        → Unbeaten (lawful .tells) (Listed s) (image s p) (s .pairs) (only (s .same) (map pairIn (xs ++ ys)) v)
+    unfolding neededBy
+    needed-spares xs l ys e = needed-each (lawful .tells) (Listed s) (image s p) (s .pairs) (λ k m. m) closed v numbering all xs l ys e
+
+  -- a full drawing that breaks the literals has by the certificate an earlier copy
+  pub sound-needed : (numbering : List P) → Each (λ k. List·Memᴰ k numbering) (s .pairs) → (block : ℕ → ℕ) (v : P → ℕ) (p : List ℕ) → Certified n s block v p
+      → (H : P → ℕ) → FullOn s H → Breaks (neededBy s numbering v p) H → EarlierCopy n s block H p
+  unfolding walkOf neededBy
+  sound-needed numbering all block v p c H full b =
+      record {
+        permitted = c .permitted;
+        earlier = needed-sound (lawful .tells) (Listed s) (image s p) (s .pairs) (λ k m. m) (image-listed lawful p (c .permitted .reorders)) v numbering all (c .pair, c .wins) H full b;
+      }

@@ -3,14 +3,14 @@
 use Prim.Native.Nat.{ℕ, _≤_}
 use mathlib.Core.Path.{_≡_, refl, sym}
 use mathlib.Core.Logic.{_↔_}
-use mathlib.Core.List.{List}
+use mathlib.Core.List.{List, List·Memᴰ}
 use Rattle.laws.specs.Each.{Each}
 use Rattle.walk.specs.Clause.{Breaks}
 use Rattle.beginnings.specs.Search.{none}
 use Rattle.schemes.specs.Scheme.{Scheme, image, Lawful}
-use Rattle.schemes.specs.Judging.{FullOn, copyBy, literalsBy, found, stepsFor, Certified, EarlierCopy, Smallest}
+use Rattle.schemes.specs.Judging.{FullOn, copyBy, neededBy, found, stepsFor, Certified, EarlierCopy, Smallest}
 use Rattle.schemes.proofs.Images.{image-listed}
-use Rattle.schemes.proofs.Meaning.{certified-means, sound-literals}
+use Rattle.schemes.proofs.Meaning.{certified-means, sound-needed}
 use Rattle.schemes.proofs.Certificates.{none-at, finds-none}
 use Rattle.walk.proofs.Order.{earlier-alike}
 
@@ -42,7 +42,7 @@ module _ {P : Type 0} {n : ℕ} {s : Scheme P} (lawful : Lawful n s) (block : �
   pub smallest-alike : (H K : P → ℕ) → Each (λ k. K k ≡ H k) (s .pairs) → Smallest n s block H → Smallest n s block K
   smallest-alike H K e least p c = least p (earlier-copy-alike K H (λ k m. sym (e k m)) p c)
 
-  -- it breaks the literals of no certificate for the same scheme, order and blocks
-  pub smallest-unbroken : (H : P → ℕ) → FullOn s H → Smallest n s block H → (v : P → ℕ) (p : List ℕ) → Certified n s block v p
-      → ¬ Breaks (literalsBy s v p) H
-  smallest-unbroken H f least v p c b = least p (sound-literals lawful block v p c H f b)
+  -- it breaks the clause of no certificate for the same scheme, order and blocks, by any numbering that has every compared pair
+  pub smallest-unbroken : (numbering : List P) → Each (λ k. List·Memᴰ k numbering) (s .pairs) → (H : P → ℕ) → FullOn s H → Smallest n s block H
+      → (v : P → ℕ) (p : List ℕ) → Certified n s block v p → ¬ Breaks (neededBy s numbering v p) H
+  smallest-unbroken numbering all H f least v p c b = least p (sound-needed lawful numbering all block v p c H f b)

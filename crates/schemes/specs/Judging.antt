@@ -12,7 +12,7 @@ use Rattle.walk.specs.Walk.{Outcome, won, lost, still-open, walk}
 use Rattle.walk.specs.Clause.{Literal, clause}
 use Rattle.walk.specs.Earlier.{Earlier, copy}
 use Rattle.walk.specs.Meaning.{Full, Extends}
-use Rattle.walk.specs.Meeting.{literals}
+use Rattle.dropping.specs.Enough.{literals, needed}
 use Rattle.beginnings.specs.Beginning.{at}
 use Rattle.beginnings.specs.Order.{Before}
 use Rattle.beginnings.specs.Search.{Judgement, Found, searched, stepsNeeded}
@@ -66,12 +66,17 @@ module _ {P : Type 0} (s : Scheme P) where
   unfoldable pub walkOf : (P → ℕ) → List ℕ → Outcome P
   walkOf v p = walk (s .same) (image s p) (s .pairs) v
 
-  -- the literals that it meets, and how they are written by the numbers of the pairs, which may come in another order
-  unfoldable pub literalsBy : (P → ℕ) → List ℕ → List (Literal P)
-  literalsBy v p = literals (s .same) (image s p) (s .pairs) v
+  -- the literals that it meets, by the numbers of the pairs, which may come in another order
+  unfoldable pub literalsBy : List P → (P → ℕ) → List ℕ → List (Literal P)
+  literalsBy numbering v p = literals (s .same) (image s p) (s .pairs) v numbering
 
+  -- those that are kept: from the highest number down, each is dropped where p wins by the others that remain
+  unfoldable pub neededBy : List P → (P → ℕ) → List ℕ → List (Literal P)
+  neededBy numbering v p = needed (s .same) (image s p) (s .pairs) v numbering
+
+  -- how these are written
   unfoldable pub writtenBy : List P → (P → ℕ) → List ℕ → List ℤ
-  writtenBy numbering v p = clause (s .same) (literalsBy v p) numbering
+  writtenBy numbering v p = clause (s .same) (neededBy numbering v p) numbering
 
 -- ---- beginnings
 

@@ -70,7 +70,7 @@ fn count_there(marks: u32, hidden: u32, i: u32, j: u32, u: u32, v: u32) -> u32
 }
 
 // What the pair (i, j) does where u and v stand there, its entry counts as a and that of its image as b.
-fn turn_by(a: u32, b: u32, i: u32, j: u32, u: u32, v: u32) -> u32
+pub fn turn_by(a: u32, b: u32, i: u32, j: u32, u: u32, v: u32) -> u32
     ensures { λ r. ⌜ r ≡ turnBy a b (samePair (pairOfTwo u v) (pair i j)) ⌝ }
 {
     if a == b {

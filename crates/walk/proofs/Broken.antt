@@ -12,7 +12,7 @@ use Rattle.walk.proofs.Number.{one-pair, has-number}
 use Rattle.walk.proofs.Clause.{literal-stands, clause-written}
 
 -- a literal is false exactly where its number is
-signed-false : {P : Type 0} (ks : List P) (H : P → ℕ) (l : Literal P) (m : ℕ) → Numbered ks (pairIn l) m → FalseIn H l ↔ FalseAt ks H (signed l m)
+pub signed-false : {P : Type 0} (ks : List P) (H : P → ℕ) (l : Literal P) (m : ℕ) → Numbered ks (pairIn l) m → FalseIn H l ↔ FalseAt ks H (signed l m)
 signed-false ks H (absent k) zero at = absurd (omega (arith, at .count))
 signed-false ks H (absent k) (suc m) at = (λ f j b. ap H (one-pair b at) ∙ f, λ f. f k at)
 signed-false ks H (present k) m at = (λ f j b. ap H (one-pair b at) ∙ f, λ f. f k at)

@@ -19,7 +19,7 @@ use Rattle.walk.proofs.Put.{put-here, put-there}
 use Rattle.walk.proofs.Step.{Stepped, by-itself, winning, alike, zero-driven, one-driven, losing, stepped}
 
 -- the element at which a list without repeats splits does not stand before
-not-before : {A : Type 0} (xs : List A) (k : A) (ys : List A) → NoRepeats (xs ++ k ∷ ys) → List·Memᴰ k xs → ⊥
+pub not-before : {A : Type 0} (xs : List A) (k : A) (ys : List A) → NoRepeats (xs ++ k ∷ ys) → List·Memᴰ k xs → ⊥
 unfolding NoRepeats
 not-before [] k ys h m = elim m [ ]
 not-before (x ∷ xs) k ys h (List·Memᴰ·head e) = h .0 (Memᴰ·append-right xs (List·Memᴰ·head (sym e)))

@@ -1,24 +1,21 @@
--- A walk goes by the entries that it meets, and their literals are enough to win.
-use Prim.Native.Nat.{ℕ, _≤_}
-use native.Mathlib.Omega.{arith}
+-- A walk goes by the entries that it meets, and their literals are false in the drawing.
+use Prim.Native.Nat.{ℕ}
 use mathlib.Core.Path.{_≡_, refl, sym, _∙_, ap}
 use mathlib.Core.Logic.{_↔_, _⊎_, inl, inr, _≢_}
 use mathlib.Core.Bool.{Bool, true, false}
 use mathlib.Core.List.{List, [], _∷_, _++_, List·Memᴰ, List·Memᴰ·head, List·Memᴰ·tail, List·Memᴰ·cases-cons, List·Memᴰ·not-nil}
 use lib.Dec.{eqb}
-use borrow.Author.Tests.{eqb-true, eqb-false}
+use borrow.Author.Tests.{eqb-true}
 use Rattle.laws.specs.Test.{pick}
 use Rattle.laws.specs.TestLaws.{fails}
 use Rattle.laws.specs.Each.{Each, each-none, each-cons, each-first, each-rest}
 use Rattle.walk.specs.Walk.{Tells, won, Move, skips, wins, goes-on, drives-zero, drives-one, loses, move, moveAt, ending, put, driven, walk}
 use Rattle.walk.specs.Clause.{absent, present, FalseIn, Breaks}
-use Rattle.walk.specs.Earlier.{Earlier, copy}
-use Rattle.walk.specs.Meaning.{Full}
-use Rattle.walk.specs.Meeting.{meeting, met, withImages, only, literalAt, literalsOf, literals}
+use Rattle.walk.specs.Meeting.{meeting, met, withImages, only, literalAt, literalsOf}
 use Rattle.walk.proofs.Put.{apart}
 use Rattle.walk.proofs.Step.{Stepped, by-itself, winning, alike, zero-driven, one-driven, losing, stepped}
-use Rattle.walk.proofs.Only.{only-listed, extends-only}
-use Rattle.walk.proofs.Meaning.{lost-not-won, open-not-won, won-means}
+use Rattle.walk.proofs.Only.{only-listed}
+use Rattle.walk.proofs.Meaning.{lost-not-won, open-not-won}
 
 -- ---- what a walk meets decides it
 
@@ -175,30 +172,3 @@ literals-false {P} v (j ∷ js) = at (eqb (v j) 1) (eqb (v j) 0) refl refl (lite
     at true z e d h = each-cons (FalseIn v) (eqb-true (v j) 1 e) h
     at false true e d h = each-cons (FalseIn v) (eqb-true (v j) 0 d) h
     at false false e d h = h
-
--- what breaks the literals has the entries that are known in v at js
-pub breaks-known : {P : Type 0} (v H : P → ℕ) (js : List P) → Breaks (literalsOf v js) H → Each (λ j. v j ≤ 1 → H j ≡ v j) js
-unfolding literalsOf literalAt pick
-breaks-known v H [] b = each-none (λ j. v j ≤ 1 → H j ≡ v j)
-breaks-known {P} v H (j ∷ js) b = at (eqb (v j) 1) (eqb (v j) 0) refl refl b (breaks-known v H js)
-  where
-    known : P → Type 0
-    known i = v i ≤ 1 → H i ≡ v i
-
-    at : (o z : Bool) → eqb (v j) 1 ≡ o → eqb (v j) 0 ≡ z
-        → Breaks (pick o (absent j ∷ literalsOf v js) (pick z (present j ∷ literalsOf v js) (literalsOf v js))) H
-        → (Breaks (literalsOf v js) H → Each (λ j. v j ≤ 1 → H j ≡ v j) js) → Each (λ j. v j ≤ 1 → H j ≡ v j) (j ∷ js)
-    at true z e d b f = each-cons known (λ h. each-first (FalseIn H) b ∙ sym (eqb-true (v j) 1 e)) (f (each-rest (FalseIn H) b))
-    at false true e d b f = each-cons known (λ h. each-first (FalseIn H) b ∙ sym (eqb-true (v j) 0 d)) (f (each-rest (FalseIn H) b))
-    at false false e d b f = each-cons known (λ h. absurd (neither (v j) h (eqb-false (v j) 1 e) (eqb-false (v j) 0 d))) (f b)
-      where
-        neither : (n : ℕ) → n ≤ 1 → (n ≡ 1 → ⊥) → (n ≡ 0 → ⊥) → ⊥
-        neither n h o z = omega arith
-
-module _ {P : Type 0} {same : P → P → Bool} (tells : Tells same) (L : P → Type 0) (img : P → P) where
-  -- a full drawing that breaks the literals of a walk that is won has an earlier copy
-  pub literals-sound : (ks : List P) → Each L ks → Each (λ k. L (img k)) ks → (v : P → ℕ) (k : P) → walk same img ks v ≡ won k
-      → (H : P → ℕ) → Full L H → Breaks (literals same img ks v) H → Earlier ks (copy img H) H
-  literals-sound ks ls is v k e H f b =
-      won-means tells L img ks ls is (only same (met same img ks v) v) .0 (k, met-enough tells img ks v ∙ e) H f
-      (extends-only tells L (met same img ks v) v H (breaks-known v H (met same img ks v) b))

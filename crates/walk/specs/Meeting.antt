@@ -46,7 +46,3 @@ literalAt a j rest = pick (eqb a 1) (absent j ∷ rest) (pick (eqb a 0) (present
 unfoldable pub literalsOf : {P : Type 0} → (P → ℕ) → List P → List (Literal P)
 literalsOf v [] = []
 literalsOf v (j ∷ js) = let rest = literalsOf v js in literalAt (v j) j rest
-
--- the literals of the walk: of every pair met, by the entries before anything was driven
-abbrev pub literals : {P : Type 0} → (P → P → Bool) → (P → P) → List P → (P → ℕ) → List (Literal P)
-literals same img ks v = literalsOf v (met same img ks v)

@@ -10,12 +10,14 @@ use Rattle.laws.specs.Chosen.{chosenUpTo}
 use Rattle.laws.specs.Num.{num}
 use Rattle.laws.specs.First.{firstUpTo, orElse}
 use Rattle.walk.specs.Walk.{move, ending, put, driven, walk}
-use Rattle.walk.specs.Meeting.{meeting, met, literalAt, literalsOf}
+use Rattle.walk.specs.Meeting.{meeting, met, listed, only, literalAt, literalsOf}
 use Rattle.walk.specs.Clause.{sameLiteral, among, numbered, clauseAfter, clause}
 use Rattle.beginnings.specs.Beginning.{absent, mayFollow, children}
 use Rattle.beginnings.specs.Search.{whereOpen, subtree, subtrees, reached, onWon, tryAll, searched}
 use Rattle.beginnings.specs.Certificate.{withFirst, completed}
-use Rattle.schemes.specs.Judging.{walkOf, literalsBy, writtenBy, judgementOf, judging, judged, found}
+use Rattle.dropping.specs.Kept.{kept}
+use Rattle.dropping.specs.Enough.{isWon, enough, literals, needed}
+use Rattle.schemes.specs.Judging.{walkOf, neededBy, writtenBy, judgementOf, judging, judged, found}
 use Rattle.plain.specs.Plain.{samePair, pairOfTwo, judgedOn}
 use Rattle.pairs.specs.Vertices.{orderFits}
 use Rattle.pairs.specs.Pairs.{alongRow, fromRow, pairs, pairCount, number}
@@ -70,6 +72,8 @@ cases =
     ∷ record { order = 3; starts = 1; entries = 1 ∷ u ∷ 0 ∷ []; bytes = 0x0c ∷ 0x60 ∷ []; budget = 1000; verdict = Smaller 1 2 9; arrangement = 2 ∷ 3 ∷ 1 ∷ []; literals = negsuc 0 ∷ pos 3 ∷ [] }
     ∷ record { order = 4; starts = 1; entries = u ∷ 1 ∷ u ∷ u ∷ 0 ∷ 0 ∷ []; bytes = 0x10 ∷ 0x4d ∷ 0x00 ∷ []; budget = 1000; verdict = Smaller 1 3 13; arrangement = 2 ∷ 1 ∷ 4 ∷ 3 ∷ []; literals = negsuc 1 ∷ pos 5 ∷ [] }
     ∷ record { order = 4; starts = 1; entries = 0 ∷ u ∷ 0 ∷ 1 ∷ 0 ∷ 1 ∷ []; bytes = 0x10 ∷ 0x10 ∷ 0x88 ∷ []; budget = 1000; verdict = Smaller 2 3 6; arrangement = 1 ∷ 2 ∷ 4 ∷ 3 ∷ []; literals = pos 3 ∷ negsuc 3 ∷ pos 5 ∷ [] }
+    ∷ record { order = 4; starts = 1; entries = u ∷ u ∷ 0 ∷ 1 ∷ 1 ∷ 0 ∷ []; bytes = 0x10 ∷ 0x50 ∷ 0xa0 ∷ []; budget = 1000; verdict = Smaller 2 4 10; arrangement = 1 ∷ 4 ∷ 2 ∷ 3 ∷ []; literals = pos 3 ∷ negsuc 3 ∷ pos 6 ∷ [] }
+    ∷ record { order = 5; starts = 1; entries = u ∷ u ∷ 1 ∷ 1 ∷ u ∷ 1 ∷ u ∷ u ∷ 0 ∷ 0 ∷ []; bytes = 0x14 ∷ 0x29 ∷ 0x66 ∷ 0x80 ∷ []; budget = 1000; verdict = Smaller 2 5 28; arrangement = 3 ∷ 5 ∷ 1 ∷ 2 ∷ 4 ∷ []; literals = negsuc 2 ∷ negsuc 3 ∷ negsuc 5 ∷ pos 9 ∷ [] }
     ∷ []
 
 abbrev graphOf : Case → Graph
@@ -107,5 +111,5 @@ expected c =
 
 -- the claim: each case gives what is expected of it
 worked : map given cases ≡ map expected cases
-unfolding both either pick unless allUpTo sumUpTo wordUpTo listUpTo chosenUpTo move ending put driven walk meeting met literalAt literalsOf sameLiteral among numbered clauseAfter clause absent mayFollow children whereOpen subtree subtrees reached onWon tryAll searched withFirst completed placed mirrored drawn pairFits rowFits startsFit orderFits wellFormed alongRow fromRow pairs samePair pairOfTwo walkOf literalsBy writtenBy judgedOn judgementOf judging judged found padded certificateOf without winningPair smaller answerFor judgeAnswer atStart judgeBuffer flatMap num firstUpTo orElse bitCount byteCount bitOf orderIn startIn startsIn numberedIn entryIn isRefused refusedIn padIn graphIn entryBit recordBit recordByte recordOf recordIn recordAt readAnswer bufferAfter
+unfolding both either pick unless allUpTo sumUpTo wordUpTo listUpTo chosenUpTo move ending put driven walk meeting met listed only literalAt literalsOf isWon enough kept literals needed sameLiteral among numbered clauseAfter clause absent mayFollow children whereOpen subtree subtrees reached onWon tryAll searched withFirst completed placed mirrored drawn pairFits rowFits startsFit orderFits wellFormed alongRow fromRow pairs samePair pairOfTwo walkOf neededBy writtenBy judgedOn judgementOf judging judged found padded certificateOf without winningPair smaller answerFor judgeAnswer atStart judgeBuffer flatMap num firstUpTo orElse bitCount byteCount bitOf orderIn startIn startsIn numberedIn entryIn isRefused refusedIn padIn graphIn entryBit recordBit recordByte recordOf recordIn recordAt readAnswer bufferAfter
 worked = refl

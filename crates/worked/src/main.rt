@@ -1,8 +1,8 @@
 // Runs the worked graphs of the rules, and each refusal of a library, and writes what came of it. The cases are a table
 // on standard input, a row for each: the letter of its kind; from column 2 on, in hexadecimal, how many bytes its
-// record has, from column 5 on the first three of them, with zeros after, and from column 12 on a budget; from column
-// 21 on other numbers, each a digit, with an arrangement from column 22 on; from column 26 on its name. A digit is 0 to
-// 9, then a for 10 and so on.
+// record has, from column 5 on the first four of them, with zeros after, and from column 14 on a budget; from column 23
+// on other numbers, each a digit, with an arrangement from column 24 on; from column 28 on its name. A digit is 0 to 9,
+// then a for 10 and so on.
 use graph::Graph;
 use judging::Judged;
 use libc::STDIN_FILENO;
@@ -24,11 +24,12 @@ fn bytes(row: &[u8]) -> [u8; 130] {
     whole[0] = byte_at(row, 5);
     whole[1] = byte_at(row, 7);
     whole[2] = byte_at(row, 9);
+    whole[3] = byte_at(row, 11);
     whole
 }
 
 fn budget(row: &[u8]) -> u32 {
-    (hex_at(row, 12, 8) % 4294967296) as u32
+    (hex_at(row, 14, 8) % 4294967296) as u32
 }
 
 fn vertex(row: &[u8], column: usize) -> u8 {
@@ -38,9 +39,9 @@ fn vertex(row: &[u8], column: usize) -> u8 {
 // The vertices at places 1 to 3.
 fn arrangement(row: &[u8]) -> [u8; 32] {
     let mut p = [0u8; 32];
-    p[0] = vertex(row, 22);
-    p[1] = vertex(row, 23);
-    p[2] = vertex(row, 24);
+    p[0] = vertex(row, 24);
+    p[1] = vertex(row, 25);
+    p[2] = vertex(row, 26);
     p
 }
 
@@ -151,13 +152,13 @@ fn case_of(row: &[u8], kind: u8, graph: Graph) {
         b'm' => malformed(graph),
         b'w' => write(graph),
         b'o' => write_cramped(graph),
-        b'e' => entry(graph, digit_at(row, 21), digit_at(row, 22)),
-        b'd' => degree(graph, digit_at(row, 21)),
+        b'e' => entry(graph, digit_at(row, 23), digit_at(row, 24)),
+        b'd' => degree(graph, digit_at(row, 23)),
         b's' => set(
             graph,
-            digit_at(row, 21),
-            digit_at(row, 22),
             digit_at(row, 23),
+            digit_at(row, 24),
+            digit_at(row, 25),
         ),
         _ => relabel(graph, arrangement(row)),
     }
@@ -167,16 +168,16 @@ fn case(row: &[u8]) {
     if row.len() == 0 {
         return;
     }
-    from_column(row, 26);
+    from_column(row, 28);
     text(b":");
     let whole = bytes(row);
     let given = first_bytes(&whole, hex_at(row, 2, 2) as usize);
     let kind = row[0];
     match kind {
         b'r' => read(given),
-        b'f' => field(given, digit_at(row, 21), digit_at(row, 22)),
-        b'c' => compose(digit_at(row, 21), arrangement(row)),
-        b'i' => invert(digit_at(row, 21), arrangement(row)),
+        b'f' => field(given, digit_at(row, 23), digit_at(row, 24)),
+        b'c' => compose(digit_at(row, 23), arrangement(row)),
+        b'i' => invert(digit_at(row, 23), arrangement(row)),
         _ => case_of(row, kind, reading::read(given).graph),
     }
 }

@@ -1,9 +1,10 @@
 use borrow.Author.Needs.{needs}
-use Rattle.clause.proofs.CodeCertificate.{fromPair, first-starts, first-along, first-down, first-here, first-none}
+use Rattle.clause.proofs.CodeCertificate.{first-starts, first-along, first-down, first-here, first-none}
 use Prim.Native.Nat.{_+_, _-_, _*_, _≤_, _<_}
 use mathlib.Core.Path.{_≡_}
 use Rattle.pairs.specs.Pairs.{pairs}
 use Rattle.turns.specs.Turns.{turnAt, firstPair}
+use Rattle.trials.specs.After.{fromPair}
 use Rattle.clause.proofs.certificate.winning.Statement.{statement}
 use Rattle.clause.proofs.certificate.winning.Tie as tie
 

@@ -8,10 +8,10 @@ use Rattle.clause.proofs.written.write_pairs.Statement.{statement}
 use Rattle.clause.proofs.written.write_pairs.Tie as tie
 
 abbrev Inv-loop : tie.InvT-loop
-Inv-loop edges unknowns path places n row column literals₀ before at up i₀ count₀ literals i count = Rows (kindAt edges unknowns places (pair row column)) n literals₀ literals i count
+Inv-loop edges unknowns path places n row column here source literals₀ before at up i₀ count₀ literals i count = Rows (kindAt edges unknowns places (pair row here) (pair row source)) n literals₀ literals i count
 
 abbrev μ-loop : tie.MeasureT-loop
-μ-loop edges unknowns path places n row column literals₀ before at up i₀ count₀ literals i count = n - i
+μ-loop edges unknowns path places n row column here source literals₀ before at up i₀ count₀ literals i count = n - i
 
 first-places-requires : tie.Need-first-places-requires Inv-loop μ-loop
 first-places-requires c κs = (search needs, search (before-within, needs))
@@ -29,7 +29,7 @@ columns-of-requires : tie.Need-columns-of-requires Inv-loop μ-loop
 columns-of-requires c κs = (search needs, search (places-tested, needs), search needs, search needs, search needs, search (first-before, needs), search (first-before, needs), search (first-before, needs), search needs, search needs)
 
 write-row-requires : tie.Need-write-row-requires Inv-loop μ-loop
-write-row-requires c κs = (search needs, search (places-tested, needs), search needs, search needs, search needs, search needs, search needs, search (room-for, needs), search needs, c .before .columns-of .ensures .1 _)
+write-row-requires c κs = (search needs, search (places-tested, needs), search needs, search needs, search needs, search needs, search needs, search needs, search (room-for, needs), search needs, c .before .columns-of .ensures .1 _ _ (search needs) (search needs) (search needs) (search needs))
 
 loop-again : tie.Need-loop-again Inv-loop μ-loop
 loop-again c = search rows-turn

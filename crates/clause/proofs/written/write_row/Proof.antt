@@ -7,10 +7,10 @@ use Rattle.clause.proofs.written.write_row.Statement.{statement}
 use Rattle.clause.proofs.written.write_row.Tie as tie
 
 abbrev Inv-loop : tie.InvT-loop
-Inv-loop edges unknowns places n row column i columns count literals₀ left₀ j₀ m₀ written₀ literals left j m written = Along (kindAt edges unknowns places (pair row column)) n i count literals₀ literals left j m written
+Inv-loop edges unknowns places n row here source i columns count literals₀ left₀ j₀ m₀ written₀ literals left j m written = Along (kindAt edges unknowns places (pair row here) (pair row source)) n i count literals₀ literals left j m written
 
 abbrev μ-loop : tie.MeasureT-loop
-μ-loop edges unknowns places n row column i columns count literals₀ left₀ j₀ m₀ written₀ literals left j m written = n + 1 - j
+μ-loop edges unknowns places n row here source i columns count literals₀ left₀ j₀ m₀ written₀ literals left j m written = n + 1 - j
 
 loop-holds : tie.Need-loop-holds Inv-loop μ-loop
 loop-holds c = search (along-begins, needs)
@@ -22,7 +22,7 @@ add-m : tie.Need-add-m Inv-loop μ-loop
 add-m c = search (number-fits, needs)
 
 kind-at-requires : tie.Need-kind-at-requires Inv-loop μ-loop
-kind-at-requires c κs = (search needs, search needs, search needs, search needs, search needs, search (column-after, needs), search (column-in, needs))
+kind-at-requires c κs = (search needs, search needs, search needs, search needs, search needs, search needs, search (column-after, needs), search (column-in, needs))
 
 put-requires : tie.Need-put-requires Inv-loop μ-loop
 put-requires c κs = (search (room-left, needs), search (number-small, needs))
