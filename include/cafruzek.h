@@ -43,7 +43,9 @@ enum {
  *               least n(n-1)/2 of them, else refusal 5. Only "smaller" writes: the
  *               clause at its start, by rising pair number, a literal being the
  *               pair's number, negative for "not an edge", positive for "an edge".
- *               Nothing after the clause is changed.
+ *               No literal of it can be dropped: without any one, it would cut off
+ *               a drawing that the renumbering does not make smaller. Nothing
+ *               after the clause is changed.
  * arrangement   32 numbers. Only "smaller" writes: all 32, at index i - 1 the vertex
  *               put at place i, and zeros after place n.
  *
@@ -134,7 +136,7 @@ static inline uint32_t cafruzek_steps(uint64_t answer)
 }
 
 /* The row and the column of the winning pair, at which the renumbering shows itself
- * smaller (S1 of the rules); 0 except for "smaller". */
+ * smaller in the graph that was given (S1 of the rules); 0 except for "smaller". */
 static inline uint32_t cafruzek_row(uint64_t answer)
 {
     return (uint32_t)(answer >> 32) & 63;

@@ -223,7 +223,7 @@ int main(void)
         const struct function *function = &functions[f];
         require(function->seen[0] && function->seen[3], "an answer was not seen");
         require(!function->judges || (function->seen[1] && function->seen[2]), "a judgement was not seen");
-        require(!function->judges || function->literals > 470, "no long clause was seen");
+        require(!function->judges || function->literals > 230, "no long clause was seen");
         require(function->touched <= function->most, "a function takes too much of the stack");
     }
     return 0;

@@ -51,6 +51,12 @@ struct found {
 void baseline_search(uint32_t order, const uint32_t edges[32], const uint32_t unknowns[32],
                      uint32_t starts, uint32_t budget, struct found *found);
 
+/* Writes the clause of what was found, by rising pair number, and tells how many literals
+ * it has. */
+size_t baseline_write_clause(uint32_t order, const uint32_t edges[32],
+                             const uint32_t unknowns[32], const struct found *found,
+                             int32_t *literals);
+
 /* The answer that refuses. */
 static inline uint64_t refusal(uint64_t number, size_t place)
 {

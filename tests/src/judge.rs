@@ -2,7 +2,9 @@
 //!
 //! Inside this file places, vertices and rows count from 0.
 
+use crate::clause;
 use crate::graph::{Graph, Refusal};
+use crate::masks::{below, is_set};
 use crate::pairs::pair_count;
 use crate::verdict::{Judgement, Verdict};
 
@@ -212,15 +214,6 @@ impl Path {
     }
 }
 
-fn is_set(mask: u32, vertex: usize) -> bool {
-    mask >> (vertex & 31) & 1 == 1
-}
-
-/// The mask of the vertices below a bound of at most 32.
-fn below(bound: usize) -> u32 {
-    ((1u64 << bound) - 1) as u32
-}
-
 fn same_pair((x, y): (usize, usize), (i, j): (usize, usize)) -> bool {
     (x, y) == (i, j) || (x, y) == (j, i)
 }
@@ -266,45 +259,6 @@ pub fn search(graph: &Graph, budget: u32) -> Found {
     if graph.fully_drawn() { board.search::<true>(budget) } else { board.search::<false>(budget) }
 }
 
-/// Writes the clause of a certificate and tells how many literals it has.
-///
-/// The pairs met are gathered in row masks and come out rising. All literals are
-/// false in the graph, so a pair is negated exactly where it is an edge.
-fn write_clause(
-    graph: &Graph,
-    vertices: &[u8; 32],
-    (last_row, last_column): (usize, usize),
-    buffer: &mut [i32],
-) -> usize {
-    let order = graph.order as usize;
-    let mut met = [0u32; 32];
-    for row in 0..=last_row {
-        let end = if row == last_row { last_column + 1 } else { order };
-        for column in row + 1..end {
-            let (x, y) = (usize::from(vertices[row]), usize::from(vertices[column]));
-            if !same_pair((x, y), (row, column)) {
-                met[row] |= 1 << column;
-                met[x.min(y)] |= 1 << x.max(y);
-            }
-        }
-    }
-    let mut length = 0;
-    let mut before_row = 0;
-    for (row, &columns) in met.iter().enumerate().take(order) {
-        let mut left = columns & !graph.unknowns[row];
-        while left != 0 {
-            let column = left.trailing_zeros() as usize;
-            left &= left - 1;
-            let number = (before_row + column - row) as i32;
-            let negated = is_set(graph.edges[row], column);
-            buffer[length] = if negated { -number } else { number };
-            length += 1;
-        }
-        before_row += order - 1 - row;
-    }
-    length
-}
-
 /// Judges a graph; refusals 8, 5. Only "smaller" writes to the buffer.
 pub fn judge(graph: &Graph, budget: u32, buffer: &mut [i32]) -> Judgement {
     if !well_formed(graph) {
@@ -317,7 +271,7 @@ pub fn judge(graph: &Graph, budget: u32, buffer: &mut [i32]) -> Judgement {
         Found::Cut => Judgement::without(Verdict::Cut { steps: budget }),
         Found::Nothing { steps } => Judgement::without(Verdict::Nothing { steps }),
         Found::Won { vertices, row, column, steps } => {
-            let literals = write_clause(graph, &vertices, (row, column), buffer);
+            let literals = clause::write(graph, &vertices, (row, column), buffer);
             let mut arrangement = [0; 32];
             for place in 0..graph.order as usize {
                 arrangement[place] = vertices[place] + 1;

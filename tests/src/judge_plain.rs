@@ -113,9 +113,9 @@ pub fn first_certificate(graph: &Graph) -> Option<(Arrangement, Pair)> {
     })
 }
 
-/// The clause of a certificate: every entry known in the graph that its walk met
-/// other than against itself, each once, by rising pair number.
-pub fn clause(graph: &Graph, p: &Arrangement) -> Vec<i32> {
+/// The literals that are false in the graph at the known entries that the walk met
+/// other than against themselves, by rising pair number.
+pub fn literals_met(graph: &Graph, p: &Arrangement) -> Vec<i32> {
     let all: Vec<Pair> = pairs(graph.order).collect();
     let (_, met) = walked(graph, &whole(graph, p), &all);
     let literal = |&(i, j): &Pair| {
@@ -129,6 +129,39 @@ pub fn clause(graph: &Graph, p: &Arrangement) -> Vec<i32> {
     let mut literals: Vec<i32> = met.iter().filter_map(literal).collect();
     literals.sort_by_key(|literal| literal.abs());
     literals.dedup();
+    literals
+}
+
+/// The graph that knows only what these literals say: each of them is false in it.
+pub fn knowing_only(graph: &Graph, literals: &[i32]) -> Graph {
+    let all: Vec<Pair> = pairs(graph.order).collect();
+    let mut known = *graph;
+    for &(i, j) in &all {
+        known.put(i, j, UNKNOWN);
+    }
+    for literal in literals {
+        let (i, j) = all[literal.unsigned_abs() as usize - 1];
+        known.put(i, j, if *literal < 0 { EDGE } else { NON_EDGE });
+    }
+    known
+}
+
+/// Whether the walk is won over the graph that knows only what these literals say.
+pub fn is_won_knowing(graph: &Graph, p: &Arrangement, literals: &[i32]) -> bool {
+    matches!(walk(&knowing_only(graph, literals), p), Walk::Won(_))
+}
+
+/// The clause of a certificate: what is left of the literals met where each, from the
+/// highest pair number down, is dropped if the walk is still won without it.
+pub fn clause(graph: &Graph, p: &Arrangement) -> Vec<i32> {
+    let mut literals = literals_met(graph, p);
+    for index in (0..literals.len()).rev() {
+        let mut others = literals.clone();
+        others.remove(index);
+        if is_won_knowing(graph, p, &others) {
+            literals = others;
+        }
+    }
     literals
 }
 

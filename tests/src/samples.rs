@@ -64,17 +64,19 @@ pub fn graph(random: &mut Random, order: u32) -> Graph {
     Graph { starts: starts(random, order, share), ..sprinkled(random, order, edges, unknowns) }
 }
 
-/// The graph with its certificates applied one after another, until the budget
+/// The graph, and what its certificates make of it one after another, until the budget
 /// finds none. Each makes it earlier, with unknown between 0 and 1, so this ends.
-pub fn settled(mut graph: Graph, budget: u32) -> Graph {
-    let mut literals = [0; 496];
-    loop {
-        let judgement = judge(&graph, budget, &mut literals);
-        let Verdict::Smaller { .. } = judgement.verdict else {
-            return graph;
-        };
-        graph = relabel(&graph, &judgement.arrangement).expect("a certificate is permitted");
-    }
+pub fn settling(graph: Graph, budget: u32) -> impl Iterator<Item = Graph> {
+    std::iter::successors(Some(graph), move |graph| {
+        let judgement = judge(graph, budget, &mut [0; 496]);
+        let smaller = matches!(judgement.verdict, Verdict::Smaller { .. });
+        smaller.then(|| relabel(graph, &judgement.arrangement).expect("a certificate is permitted"))
+    })
+}
+
+/// The last of these, for which the budget finds no certificate.
+pub fn settled(graph: Graph, budget: u32) -> Graph {
+    settling(graph, budget).last().expect("the graph itself is one")
 }
 
 /// The graph with one bit of its value turned, or with another order.

@@ -106,3 +106,9 @@ impl Clause {
         subsets(all & !(self.wanted | unwanted)).map(move |others| unwanted | others)
     }
 }
+
+/// Whether every full drawing that breaks these literals has an earlier copy by p.
+pub fn is_sound(order: u32, p: &Arrangement, literals: &[i32]) -> bool {
+    let copying = Copying::new(order, p);
+    Clause::new(order, literals).broken_by(order).all(|drawing| copying.is_earlier(drawing))
+}

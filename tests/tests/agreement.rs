@@ -3,7 +3,7 @@
 use oracle::arrangement::{permitted, relabel};
 use oracle::graph::Graph;
 use oracle::judge::{judge, well_formed};
-use oracle::judge_plain::{self, Walk, judge_plain, walk};
+use oracle::judge_plain::{self, Walk, is_won_knowing, judge_plain, walk};
 use oracle::judges::{UNTOUCHED, by_baseline};
 use oracle::pairs::pairs;
 use oracle::random::Random;
@@ -66,8 +66,9 @@ fn fast_and_baseline_on_every_order() {
 }
 
 /// On every order a certificate is permitted, its pair and its clause are those of the
-/// plain definition, its literals are false, rising and single, and full drawings that
-/// break the clause have an earlier copy by it: those of the graph, and others.
+/// plain definition, its literals are false, rising and single, the walk that knows only
+/// them is won, and lost or open without any one, and full drawings that break the clause
+/// have an earlier copy by it: those of the graph, and others.
 #[test]
 fn certificates_of_every_order_are_sound() {
     let mut random = Random::new(5);
@@ -85,6 +86,11 @@ fn certificates_of_every_order_are_sound() {
         let clause = &literals[..judgement.literals];
         assert_eq!(clause, judge_plain::clause(&graph, p));
         assert!(clause.is_sorted_by(|a, b| a.abs() < b.abs()));
+        assert!(is_won_knowing(&graph, p, clause));
+        for index in 0..clause.len() {
+            let others = [&clause[..index], &clause[index + 1..]].concat();
+            assert!(!is_won_knowing(&graph, p, &others), "{graph:?} without {}", clause[index]);
+        }
         let all: Vec<_> = pairs(graph.order).collect();
         let named: Vec<_> =
             clause.iter().map(|l| (all[l.unsigned_abs() as usize - 1], l)).collect();

@@ -7,6 +7,7 @@ use mathlib.Core.List.{List}
 use lib.IntN.{ℤ}
 use lib.ListN.{length, take}
 use borrow.Author.Tests.{eq-eqb, ne-eqb}
+use Rattle.laws.specs.Each.{Each}
 use Rattle.laws.specs.Test.{pick}
 use Rattle.walk.specs.Clause.{BreaksClause}
 use Rattle.walk.specs.Earlier.{LexLess}
@@ -22,9 +23,10 @@ use Rattle.judging.specs.declared.Judged.{Judged}
 use Rattle.judging.specs.Judging.{stepsFor}
 use Rattle.judging.specs.Answer.{told, without, judgeAnswer, judgeBuffer}
 use Rattle.judging.specs.Certificates.{FullGraph, Certified}
-use Rattle.judging.specs.Drawings.{EarlierCopy, Smallest, written}
+use Rattle.judging.specs.Drawings.{EarlierCopy, Smallest, Needs, written}
 use Rattle.judging.proofs.Exact.{exact-smaller, exact-none, exact-cut, exact-cut-only, not-refused, exact-steps}
 use Rattle.judging.proofs.Sound.{written-sound, written-published}
+use Rattle.judging.proofs.Needed.{written-needed}
 use Rattle.judging.proofs.Smallest.{none-tells}
 use Rattle.judging.proofs.Buffer.{buffer-unchanged}
 use Rattle.packing.specs.Packing.{lowIn, codeIn, packed}
@@ -126,6 +128,10 @@ module _ (g : Graph) (budget : ℕ) (h : budget < 2 ^ 32) (buffer : List ℤ) (l
     -- so what has no permitted copy earlier survives every clause that is left in a buffer
     pub smallest-kept : (d : Graph) → FullGraph (g .order) (g .starts) d → Smallest d → ¬ BreaksClause (pairs (g .order)) (clauseIn o) (entryAt d)
     smallest-kept d full least broken = least (o .arrangement) (broken-earlier d full broken)
+
+    -- no literal of the clause in the buffer can be dropped
+    pub told-needed : Each (Needs g (o .arrangement) (clauseIn o)) (clauseIn o)
+    told-needed = rw (arrangement-is, clause-is) (written-needed g budget buffer (kind-is 1 (omega arith) .0 smaller))
 
   -- ---- nothing but "smaller" changes the caller's memory
 

@@ -1,5 +1,5 @@
 -- The pass over the pairs writes the clause: the kind of a pair tells whether the pair, or "not" the pair, is a literal that is kept.
-use Prim.Native.Nat.{ℕ, suc, _+_, _≤_, _<_}
+use Prim.Native.Nat.{ℕ, suc, _+_, _≤_}
 use native.Mathlib.Omega.{arith}
 use mathlib.Core.Path.{_≡_, refl, sym, ap, _∙_}
 use mathlib.Core.Bool.{Bool, true, false}
@@ -16,8 +16,8 @@ use Rattle.walk.specs.Clause.{Literal, absent, present, among, numbered, clause
 use Rattle.walk.specs.Meeting.{literalsOf}
 use Rattle.walk.proofs.Clause.{among-listed}
 use Rattle.walk.proofs.Literals.{literals-in-words}
-use Rattle.dropping.specs.Settled.{Turned, staying, imageGoes, pairGoes}
-use Rattle.dropping.proofs.Pass.{not-later, needed-stays}
+use Rattle.needed.specs.Settled.{Turned, staying, imageGoes, pairGoes}
+use Rattle.needed.proofs.Pass.{not-later, needed-stays}
 use Rattle.schemes.specs.Judging.{walkOf, neededBy, writtenBy}
 use Rattle.plain.specs.Plain.{samePair, image}
 use Rattle.plain.specs.Before.{rowBefore}
@@ -26,18 +26,16 @@ use Rattle.graph.specs.declared.Graph.{Graph}
 use Rattle.graph.specs.Graph.{graphOf}
 use Rattle.graph.specs.Counts.{entryAt}
 use Rattle.graph.specs.WellFormed.{wellFormed}
-use Rattle.graph.proofs.Formed.{formed}
 use Rattle.arrangements.specs.Arrangement.{Reordering, isPermitted}
-use Rattle.arrangements.proofs.Permits.{permitted}
 use Rattle.composing.specs.Composed.{inverse}
 use Rattle.pairs.specs.Pairs.{Pair, pair, pairs, Between}
 use Rattle.pairs.proofs.PairLaws.{pairs-given, pairs-has}
 use Rattle.judging.specs.Judging.{walkAll, neededOf, clauseOf}
-use Rattle.judging.proofs.Literals.{winning-between}
 use Rattle.kinds.specs.Kinds.{kindAt}
-use Rattle.clause.specs.Clauses.{limit, writtenFor, writtenAlong, Wrote}
-use Rattle.clause.proofs.RowsTurned.{rows-turned}
-use Rattle.clause.proofs.Limits.{kind-edge, kind-gap}
+use Rattle.dropped.specs.Limit.{limit}
+use Rattle.dropped.proofs.Limits.{kind-edge, kind-gap}
+use Rattle.dropped.proofs.Winning.{turned, winning-is, source-is, order-high, reorders}
+use Rattle.clause.specs.Clauses.{writtenFor, writtenAlong, Wrote}
 
 -- the literals of a drawing are told by its entries
 module _ (y : Pair → ℕ) (ks : List Pair) (k : Pair) (m : List·Memᴰ k ks) where
@@ -81,14 +79,11 @@ module _ (g : Graph) (p : List ℕ) (high : g .order ≤ 32) (r : Reordering (g 
   abbrev w : Pair
   w = pair row column
 
-  pub turned : Turned samePair rowBefore (image p) (image (inverse (g .order) p)) (pairs (g .order))
-  turned = rows-turned n p high r
+  t : Turned samePair rowBefore (image p) (image (inverse (g .order) p)) (pairs (g .order))
+  t = turned g p high r row column wins
 
-  pub winning-is : Between 1 (g .order) (pair row column)
-  winning-is = winning-between g p w wins
-
-  pub source-is : (k : Pair) → List·Memᴰ k (pairs (g .order)) → Between 1 (g .order) (image (inverse (g .order) p) k)
-  source-is k m = pairs-given n (image q k) (turned .source-in k m)
+  between : Between 1 (g .order) (pair row column)
+  between = winning-is g p high r row column wins
 
   -- whether what is at the winning pair, or at its image, goes
   abbrev pub pairDrops : Bool
@@ -100,7 +95,7 @@ module _ (g : Graph) (p : List ℕ) (high : g .order ≤ 32) (r : Reordering (g 
   -- where the winning pair comes before its image, so does its number
   rising : rowBefore (pair row column) (image p (pair row column)) ≡ true → (us ys : List Pair) → pairs (g .order) ≡ us ++ image p (pair row column) ∷ ys → ¬ List·Memᴰ (pair row column) ys
   rising e us ys split m =
-      let s = mem-split w us (turned .order us (image p w) ys split w (pairs-has n w winning-is) .0 e) in
+      let s = mem-split w us (t .order us (image p w) ys split w (pairs-has n w between) .0 e) in
       let whole : pairs n ≡ s .0 ++ w ∷ (s .1 ++ image p w ∷ ys) = split ∙ ap (λ (l : List Pair). l ++ image p w ∷ ys) (s .2) ∙ append-assoc (s .0) (w ∷ s .1) (image p w ∷ ys) in
       let once : NoRepeats (s .0 ++ w ∷ (s .1 ++ image p w ∷ ys)) = rw whole at (rows-lawful n .once) in
       not-later (s .0) w (s .1 ++ image p w ∷ ys) once (Memᴰ·append-right (s .1) (List·Memᴰ·tail m))
@@ -108,7 +103,7 @@ module _ (g : Graph) (p : List ℕ) (high : g .order ≤ 32) (r : Reordering (g 
   -- the literals that are kept are those of the entries that stay
   kept-literals : neededOf g p ≡ literalsOf (staying rowBefore (image (inverse (g .order) p)) (entryAt g) (pair row column) pairDrops imageDrops) (pairs (g .order))
   unfolding neededBy walkOf
-  kept-literals = needed-stays turned (entryAt g) w wins (pairs n) (λ k m. m) (rows-lawful n .once) rising (λ k m. m)
+  kept-literals = needed-stays t (entryAt g) w wins (pairs n) (λ k m. m) (rows-lawful n .once) rising (λ k m. m)
 
   -- so the pass writes the clause
   pub kinds-clause : writtenAlong (kindAt (g .edges) (g .unknowns) (inverse (g .order) p) (pair row (limit pairDrops column)) (pair row (limit imageDrops column))) 0 (pairs (g .order)) ≡ clauseOf g p
@@ -118,8 +113,8 @@ module _ (g : Graph) (p : List ℕ) (high : g .order ≤ 32) (r : Reordering (g 
       (λ k m.
       let b = pairs-given n k m in
       rw kept-literals (
-        absent-told kept (pairs n) k m ∙ sym (kind-edge g q row column (winning-is .from-low) (winning-is .rising) pairDrops imageDrops k b (source-is k m)),
-        present-told kept (pairs n) k m ∙ sym (kind-gap g q row column (winning-is .from-low) (winning-is .rising) pairDrops imageDrops k b (source-is k m)),
+        absent-told kept (pairs n) k m ∙ sym (kind-edge g q row column (between .from-low) (between .rising) pairDrops imageDrops k b (source-is g p high r row column wins k m)),
+        present-told kept (pairs n) k m ∙ sym (kind-gap g q row column (between .from-low) (between .rising) pairDrops imageDrops k b (source-is g p high r row column wins k m)),
       ))
     where
       kept : Pair → ℕ
@@ -129,31 +124,13 @@ module _ (g : Graph) (p : List ℕ) (high : g .order ≤ 32) (r : Reordering (g 
 
 module _ (n : ℕ) (e u : List ℕ) (starts : ℕ) (p : List ℕ) (row column : ℕ) (well : wellFormed (graphOf n e u starts) ≡ true) (fits : isPermitted n starts p ≡ true)
     (wins : walkAll (graphOf n e u starts) p ≡ won (pair row column)) where
-  pub order-high : n ≤ 32
-  order-high = formed (graphOf n e u starts) well .order-high
-
-  pub reorders : Reordering n p
-  reorders = permitted n starts p order-high fits .reordering
-
-  at-between : Between 1 n (pair row column)
-  at-between = winning-is (graphOf n e u starts) p order-high reorders row column wins
-
-  pub row-low : 1 ≤ row
-  row-low = at-between .from-low
-
-  pub row-before : row < column
-  row-before = at-between .rising
-
-  pub column-high : column ≤ n
-  column-high = at-between .to-high
-
   module _ (q : List ℕ) (inverts : q ≡ inverse n p) (pair-gone image-gone : Bool)
       (pair-is : pair-gone ≡ pairGoes samePair rowBefore (image p) (image q) (pairs n) (entryAt (graphOf n e u starts)) (pair row column))
       (image-is : image-gone ≡ imageGoes samePair rowBefore (image p) (image q) (pairs n) (entryAt (graphOf n e u starts)) (pair row column))
       (here source : ℕ) (here-is : here ≡ limit pair-gone column) (source-is : source ≡ limit image-gone column)
       (old new : List ℤ) (r : ℕ) (done : Wrote (writtenAlong (kindAt e u q (pair row here) (pair row source)) 0 (pairs n)) old 0 new r) where
     whole : writtenAlong (kindAt e u q (pair row here) (pair row source)) 0 (pairs n) ≡ clauseOf (graphOf n e u starts) p
-    whole = rw (here-is, source-is, pair-is, image-is, inverts) (kinds-clause (graphOf n e u starts) p order-high reorders row column wins)
+    whole = rw (here-is, source-is, pair-is, image-is, inverts) (kinds-clause (graphOf n e u starts) p (order-high n e u starts p row column well fits wins) (reorders n e u starts p row column well fits wins) row column wins)
 
     pub clause-counted : r ≡ length (clauseOf (graphOf n e u starts) p)
     clause-counted = omega (arith, done .counted, ap length whole)

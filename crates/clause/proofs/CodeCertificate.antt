@@ -17,13 +17,13 @@ use Rattle.graph.specs.declared.Graph.{Graph}
 use Rattle.graph.specs.WellFormed.{WellFormed}
 use Rattle.arrangements.specs.Arrangement.{at, Permitted}
 use Rattle.composing.specs.Composed.{inverse}
-use Rattle.composing.proofs.Composing.{inverse-after}
 use Rattle.pairs.specs.Pairs.{Pair, pair, pairs}
+use Rattle.dropped.proofs.Winning.{inverse-places}
 use Rattle.trials.specs.After.{fromPair}
 use Rattle.trials.proofs.Pairs.{from-first, from-here, from-down, from-last}
 use Rattle.stops.specs.Used.{usedMask}
 use Rattle.judging.specs.Judging.{walkAll}
-use Rattle.turns.specs.Turns.{turnAt, firstPair, Places}
+use Rattle.turns.specs.Turns.{turnAt, firstPair}
 use Rattle.turns.proofs.Walks.{winning-first}
 use Rattle.stops.proofs.UsedLaws.{used-more, used-below}
 
@@ -95,16 +95,7 @@ first-starts t n l = ap (firstPair t) (from-first n l)
 
 -- ---- where a certificate wins
 
--- the inverse has the places of its vertices
-pub inverse-places : (n starts : ℕ) (p q : List ℕ) → n ≤ 32 → Permitted n starts p → q ≡ inverse n p → Places n p q
-inverse-places n starts p q small a e =
-    let r = a .reordering in
-    record {
-      arranged = record { within = record { low = r .low; high = λ i l h. omega (arith, r .high i l h) }; below = r .high; once = r .once };
-      undone = λ i l h. rw e (inverse-after n p r i l h);
-    }
-
--- so the pair that is found is that at which the walk is won
+-- the pair that is found is that at which the walk is won
 pub wins-there : (g : Graph) → WellFormed g → (p q : List ℕ) → Permitted (g .order) (g .starts) p → q ≡ inverse (g .order) p → (k : Pair) → walkAll g p ≡ won k → (row column : ℕ)
     → pair row column ≡ firstPair (turnAt (g .edges) (g .unknowns) p q) (pairs (g .order)) → walkAll g p ≡ won (pair row column)
 wins-there g w p q a e k wins row column f =

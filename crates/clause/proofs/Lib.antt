@@ -1,9 +1,5 @@
 pub mod CodeClause
 pub mod Writing
-pub mod RowsTurned
-pub mod Limits
 pub mod ClauseByKinds
-pub mod Trying
-pub mod CodeDropped
 pub mod CodeCertificate
 pub mod Completing

@@ -1,18 +1,12 @@
 -- The clause as the code writes it: in one pass over the pairs, by tests on each.
-use Prim.Native.Nat.{ℕ, suc, _+_, _-_}
+use Prim.Native.Nat.{ℕ, suc, _+_}
 use mathlib.Core.Path.{_≡_}
-use mathlib.Core.Bool.{Bool}
 use mathlib.Core.List.{List, [], _∷_, _++_}
 use lib.IntN.{ℤ}
 use lib.ListN.{length, take, drop}
 use lib.Dec.{eqb}
-use Rattle.laws.specs.Test.{pick}
 use Rattle.walk.specs.Clause.{numbered}
 use Rattle.pairs.specs.Pairs.{Pair}
-
--- the column of the winning pair, or the one before it where that pair is left out
-unfoldable pub limit : Bool → ℕ → ℕ
-limit without column = pick without (column - 1) column
 
 -- the number m as it is written for its kind
 unfoldable pub writtenFor : ℕ → ℕ → List ℤ

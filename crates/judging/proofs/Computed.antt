@@ -2,7 +2,7 @@
 use Prim.Native.Nat.{ℕ, _-_}
 use native.Mathlib.Omega.{arith}
 use mathlib.Core.Path.{_≡_, refl}
-use mathlib.Core.List.{List, [], _∷_}
+use mathlib.Core.List.{List, [], _∷_, map}
 use lib.IntN.{pos, negsuc}
 use lib.ListN.{getD}
 use Rattle.laws.specs.Test.{both, either, pick}
@@ -10,18 +10,19 @@ use Rattle.laws.specs.UpTo.{wordUpTo, listUpTo, allUpTo, sumUpTo}
 use Rattle.walk.specs.Walk.{won, move, ending, put, driven, walk}
 use Rattle.walk.specs.Meeting.{meeting, met, listed, only, literalAt}
 use Rattle.walk.specs.Meeting
-use Rattle.walk.specs.Clause.{absent, present, sameLiteral, among, numbered, clauseAfter, clause}
-use Rattle.dropping.specs.Kept.{kept}
-use Rattle.dropping.specs.Enough.{isWon, enough, literals, needed}
+use Rattle.walk.specs.Clause.{absent, present, pairIn, sameLiteral, among, numbered, clauseAfter, clause}
+use Rattle.needed.specs.Kept.{kept}
+use Rattle.needed.specs.Enough.{isWon, enough, literals, needed}
 use Rattle.schemes.specs.Judging.{walkOf, literalsBy, neededBy, writtenBy}
-use Rattle.plain.specs.Plain.{samePair, pairOfTwo}
+use Rattle.plain.specs.Plain.{samePair, pairOfTwo, image}
 use Rattle.graph.specs.declared.Graph.{Graph}
 use Rattle.words.specs.Placed.{placed}
 use Rattle.rows.specs.Rows.{mirrored}
 use Rattle.graph.specs.Graph.{drawn}
+use Rattle.graph.specs.Counts.{entryAt}
 use Rattle.composing.specs.Composed.{placeOf, inverse}
 use Rattle.pairs.specs.Pairs.{pair, alongRow, fromRow, pairs, number}
-use Rattle.judging.specs.Judging.{walkAll, literalsOf, clauseOf, padded}
+use Rattle.judging.specs.Judging.{walkAll, literalsOf, neededOf, clauseOf, padded}
 use mathlib.Core.Bool.{true}
 use Rattle.pairs.specs.Vertices.{orderFits}
 use Rattle.rows.specs.Fits.{pairFits, rowFits, startsFit}
@@ -45,6 +46,20 @@ computed : (walkAll drawing turning ≡ won (pair 1 3)) × (literalsOf drawing t
     × (walkAll drawing (inverse 4 turning) ≡ won (pair 1 4)) × (clauseOf drawing (inverse 4 turning) ≡ negsuc 1 ∷ pos 5 ∷ pos 6 ∷ [])
 unfolding both either pick wordUpTo listUpTo move ending put driven walk meeting met listed only literalAt Meeting.literalsOf sameLiteral among numbered clauseAfter clause isWon enough kept literals needed placed mirrored drawn alongRow fromRow pairs placeOf inverse samePair pairOfTwo padded walkOf literalsBy neededBy writtenBy
 computed = (refl, refl, refl, refl, refl)
+
+-- at order 5 and the winning pair (1, 5), either of its two literals could be dropped, and not both: the higher number goes, and over what the
+-- clause knows the walk wins at (2, 3)
+abbrev eitherDrawn : Graph
+eitherDrawn = drawn 5 1 (λ i j. getD (2 ∷ 1 ∷ 2 ∷ 1 ∷ 0 ∷ 2 ∷ 0 ∷ 1 ∷ 2 ∷ 1 ∷ []) (number 5 i j - 1) 0)
+
+abbrev eitherTurned : List ℕ
+eitherTurned = padded (2 ∷ 1 ∷ 4 ∷ 5 ∷ 3 ∷ [])
+
+either-dropped : (walkAll eitherDrawn eitherTurned ≡ won (pair 1 5)) × (literalsOf eitherDrawn eitherTurned ≡ absent (pair 1 3) ∷ absent (pair 1 5) ∷ present (pair 2 3) ∷ present (pair 2 5) ∷ [])
+    × (clauseOf eitherDrawn eitherTurned ≡ negsuc 1 ∷ negsuc 3 ∷ pos 7 ∷ [])
+    × (walk samePair (image eitherTurned) (pairs 5) (only samePair (map pairIn (neededOf eitherDrawn eitherTurned)) (entryAt eitherDrawn)) ≡ won (pair 2 3))
+unfolding both either pick wordUpTo listUpTo move ending put driven walk meeting met listed only literalAt Meeting.literalsOf sameLiteral among numbered clauseAfter clause isWon enough kept literals needed placed mirrored drawn alongRow fromRow pairs samePair pairOfTwo padded walkOf literalsBy neededBy writtenBy
+either-dropped = (refl, refl, refl, refl)
 
 -- the entries 1, unknown, 0, and the arrangement 3, 1, 2: (1, 3) is unknown, is driven to 1 by (1, 2), and wins against (2, 3)
 abbrev halfDrawn : Graph

@@ -7,11 +7,11 @@ pub mod Exact
 pub mod Count
 pub mod Buffer
 pub mod First
+pub mod Literals
 pub mod Sound
+pub mod Needed
 pub mod Smallest
 pub mod Least
 pub mod Survival
-pub mod Literals
-pub mod Needed
 pub mod Standing
 pub mod Computed

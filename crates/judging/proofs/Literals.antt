@@ -13,7 +13,7 @@ use Rattle.walk.specs.Walk.{won}
 use Rattle.walk.specs.Meeting.{met}
 use Rattle.walk.specs.Clause.{Literal, pairIn, signed, Numbered, RisingAbove, FalseIn}
 use Rattle.walk.proofs.Meeting.{won-meets, MetIn, with-images, met-within}
-use Rattle.dropping.proofs.Enough.{literals-exactly}
+use Rattle.needed.proofs.Enough.{literals-exactly}
 use Rattle.walk.proofs.Clause.{clause-written}
 use Rattle.walk.proofs.Rising.{clause-rising, clause-bounded}
 use Rattle.schemes.specs.Judging.{walkOf, literalsBy, writtenBy}

@@ -7,6 +7,7 @@ use mathlib.Core.Logic.{_⊎_, inl, inr, _↔_, _≢_}
 use mathlib.Core.Bool.{Bool, true, false}
 use mathlib.Core.List.{List, _∷_, _++_, map, List·Memᴰ, List·Memᴰ·cases-cons, Memᴰ·append-left, Memᴰ·append-right, List·Memᴰ·append-cases, Memᴰ·map, Memᴰ·of-map}
 use lib.IntN.{ℤ}
+use lib.ListN.{length}
 use Rattle.laws.specs.Each.{Each}
 use Rattle.laws.specs.ListLaws.{mem-split}
 use Rattle.laws.specs.Pigeonhole.{Injects}
@@ -23,8 +24,8 @@ use Rattle.walk.proofs.Meaning.{Unbeaten}
 use Rattle.walk.proofs.Meeting.{met-within, met-decides}
 use Rattle.walk.proofs.Only.{listed-tells, only-listed}
 use Rattle.walk.proofs.Order.{earlier-alike}
-use Rattle.dropping.specs.Enough.{enough}
-use Rattle.dropping.proofs.Enough.{false-known, enough-tells}
+use Rattle.needed.specs.Enough.{enough}
+use Rattle.needed.proofs.Enough.{false-known, enough-tells}
 use Rattle.schemes.specs.Judging.{walkOf, writtenBy}
 use Rattle.schemes.proofs.Images.{image-listed}
 use Rattle.schemes.proofs.Meaning.{needed-false-in, needed-listed, needed-spares}
@@ -39,10 +40,12 @@ use Rattle.pairs.specs.Pairs.{Pair, pairs, numberOf}
 use Rattle.judging.specs.Order.{EarlierGraph}
 use Rattle.judging.specs.Judging.{walkAll, neededOf, clauseOf}
 use Rattle.judging.specs.Certificates.{Certified, saidAt, KnowsOnly}
-use Rattle.judging.specs.Drawings.{Needs}
+use Rattle.judging.specs.Answer.{judgeAnswer}
+use Rattle.judging.specs.Drawings.{Needs, SaysSmaller, written}
 use Rattle.judging.proofs.Arrangements.{permitted-arranges}
 use Rattle.judging.proofs.Meaning.{copy-earlier, graphWith, with-order, with-starts, with-formed, with-entries, fullWith, full-entries, full-with, certified-won}
 use Rattle.judging.proofs.Literals.{number-in-pairs}
+use Rattle.judging.proofs.Sound.{smaller-certified, written-is}
 
 -- ---- the test of the pass
 
@@ -173,7 +176,7 @@ module _ (g : Graph) (w : WellFormed g) (p : List ℕ) (permitted : Permitted (g
           side (inl e) = absurd (ne (same-number e))
           side (inr k) = Memᴰ·append-right (splits .0) k
 
-  pub clause-needed : Needs g p z
+  pub clause-needed : Needs g p (clauseOf g p) z
   clause-needed =
       record {
         drawing = h;
@@ -208,3 +211,13 @@ module _ (g : Graph) (w : WellFormed g) (p : List ℕ) (permitted : Permitted (g
           false-as : (x : Literal Pair) → entryAt h (pairIn x) ≡ entryAt g (pairIn x) → FalseIn (entryAt g) x → FalseIn (entryAt h) x
           false-as (absent j) e f = e ∙ f
           false-as (present j) e f = e ∙ f
+
+-- ---- what judging writes
+
+-- no number that it writes can be dropped
+pub written-needed : (g : Graph) (budget : ℕ) (buffer : List ℤ) → SaysSmaller g budget buffer
+    → Each (Needs g (judgeAnswer g budget (length buffer) .arrangement) (written g budget buffer)) (written g budget buffer)
+written-needed g budget buffer says =
+    let c = smaller-certified g budget (length buffer) says in
+    subst (λ (zs : List ℤ). Each (Needs g (judgeAnswer g budget (length buffer) .arrangement) zs) zs) (sym (written-is g budget buffer says))
+    (λ z m. clause-needed g (c .0) (judgeAnswer g budget (length buffer) .arrangement) (c .1 .permitted) z m)

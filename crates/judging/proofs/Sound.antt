@@ -58,7 +58,7 @@ module _ (g : Graph) (w : WellFormed g) (p : List ℕ) (c : Certified g p) where
 -- ---- what judging writes
 
 -- the arrangement that goes with "smaller" is a certificate of a well-formed graph
-smaller-certified : (g : Graph) (budget room : ℕ) → told (judgeAnswer g budget room .verdict) .kind ≡ 1 → WellFormed g × Certified g (judgeAnswer g budget room .arrangement)
+pub smaller-certified : (g : Graph) (budget room : ℕ) → told (judgeAnswer g budget room .verdict) .kind ≡ 1 → WellFormed g × Certified g (judgeAnswer g budget room .arrangement)
 unfolding told without
 smaller-certified g budget room = at (judged-in-words g budget room)
   where
@@ -71,7 +71,7 @@ smaller-certified g budget room = at (judged-in-words g budget room)
 
 module _ (g : Graph) (budget : ℕ) (buffer : List ℤ) (says : SaysSmaller g budget buffer) where
   -- and the literals are its clause
-  written-is : written g budget buffer ≡ clauseOf g (judgeAnswer g budget (length buffer) .arrangement)
+  pub written-is : written g budget buffer ≡ clauseOf g (judgeAnswer g budget (length buffer) .arrangement)
   written-is =
       let lits : List ℤ = clauseOf g (judgeAnswer g budget (length buffer) .arrangement) in
       ap₂ take (literals-counted g budget (length buffer) says) (buffer-written g budget buffer says) ∙ take-append-seam lits (drop (length lits) buffer)

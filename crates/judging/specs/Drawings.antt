@@ -39,12 +39,12 @@ pub record LeastBy (h : Graph) (q : List ℕ) : Type 0 where
 abbrev pub BrokenBy : Graph → List ℕ → Graph → Type 0
 BrokenBy g p h = BreaksClause (pairs (g .order)) (clauseOf g p) (entryAt h)
 
--- the number z can't be dropped from p's clause for g: there is a full drawing in which every other number is false, and whose copy by p
--- is not earlier
-pub record Needs (g : Graph) (p : List ℕ) (z : ℤ) : Type 0 where
+-- z can't be dropped from these numbers, by which p is a certificate of what they say: there is a full drawing of g's order and blocks in
+-- which every other number is false, and whose copy by p is not earlier
+pub record Needs (g : Graph) (p : List ℕ) (numbers : List ℤ) (z : ℤ) : Type 0 where
   pub drawing : Graph
   pub full : FullGraph (g .order) (g .starts) drawing
-  pub others-false : Each (λ y. y ≢ z → FalseAt (pairs (g .order)) (entryAt drawing) y) (clauseOf g p)
+  pub others-false : Each (λ y. y ≢ z → FalseAt (pairs (g .order)) (entryAt drawing) y) numbers
   pub not-earlier : ¬ EarlierGraph (relabelled drawing p) drawing
 
 -- judging g says "smaller"

@@ -2,13 +2,13 @@
 use Prim.Native.Nat.{ℕ, zero, suc, _≤_, _<_}
 use native.Mathlib.Omega.{arith}
 use mathlib.Core.Path.{_≡_, refl, sym, ap, _∙_}
-use mathlib.Core.Logic.{_≢_, _⊎_, inl, inr, ⊎-elim}
+use mathlib.Core.Logic.{_≢_, _⊎_, inl, inr}
 use mathlib.Core.Bool.{Bool, true, false, not}
 use mathlib.Core.List.{List}
 use borrow.Author.Tests.{ne-eqb}
 use Rattle.laws.specs.Compared.{by-below}
 use Rattle.laws.specs.Test.{both, pick}
-use Rattle.laws.specs.TestLaws.{fails, not-both-ways, both-hold, pick-true, pick-false}
+use Rattle.laws.specs.TestLaws.{fails, not-both-ways, pick-true, pick-false}
 use Rattle.rows.specs.Rows.{entryIn}
 use Rattle.arrangements.specs.Arrangement.{at}
 use Rattle.pairs.specs.Pairs.{Pair, pair}
@@ -25,7 +25,7 @@ unfolding reached
 reached-is last k b e = ap not e
 
 -- what is reached does not come after the last pair
-pub reached-not : (last k : Pair) → reached last k ≡ true → rowBefore last k ≡ true → ⊥
+reached-not : (last k : Pair) → reached last k ≡ true → rowBefore last k ≡ true → ⊥
 unfolding reached
 reached-not last k h t = not-both-ways (not (rowBefore last k)) h (ap not t)
 
@@ -101,24 +101,6 @@ kind-some (suc zero) true true late source d = inl record { edge = refl; comes-f
 kind-some (suc zero) true false late source d = absurd (d refl)
 kind-some (suc zero) false here late source d = absurd (d refl)
 kind-some (suc (suc a)) first here late source d = absurd (d (unknown-kind (suc (suc a)) first here late source (λ e. omega arith) (λ e. omega arith)))
-
--- which one its kind tells
-module _ (a : ℕ) (first here late source : Bool) where
-  pub kind-edge : WrittenEdge a first here → kindBy a first here late source ≡ 1
-  kind-edge w = edge-kind a first here late source (w .edge) ∙ pick-true (both first here) 1 0 (both-hold first here (w .comes-first) (w .reaches))
-
-  pub kind-gap : WrittenGap a late source → kindBy a first here late source ≡ 2
-  kind-gap w = gap-kind a first here late source (w .gap) ∙ pick-true (both late source) 2 0 (both-hold late source (w .comes-late) (w .reaches))
-
-  pub edge-told : kindBy a first here late source ≡ 1 → WrittenEdge a first here
-  edge-told e =
-      ⊎-elim (λ (w : WrittenEdge a first here). w) (λ (w : WrittenGap a late source). absurd (omega (arith, kind-gap w)))
-      (kind-some a first here late source (λ z. omega arith))
-
-  pub gap-told : kindBy a first here late source ≡ 2 → WrittenGap a late source
-  gap-told e =
-      ⊎-elim (λ (w : WrittenEdge a first here). absurd (omega (arith, kind-edge w))) (λ (w : WrittenGap a late source). w)
-      (kind-some a first here late source (λ z. omega arith))
 
 -- the kind of (i, j), from its entry, the places of its vertices and the tests
 module _ (e w q : List ℕ) (lastPair lastImage : Pair) (i j a u v : ℕ) (pa : a ≡ entryIn e w i j) (pu : u ≡ at q i) (pv : v ≡ at q j) where

@@ -13,7 +13,7 @@ use Rattle.walk.specs.Meeting.{only}
 use Rattle.walk.proofs.Meeting.{met-within}
 use Rattle.walk.specs.Clause.{Literal, pairIn, Breaks, BreaksClause}
 use Rattle.walk.proofs.Broken.{clause-breaks, false-consistent}
-use Rattle.dropping.proofs.Enough.{literals-exactly, needed-met, needed-false, needed-sound, needed-each}
+use Rattle.needed.proofs.Enough.{literals-exactly, needed-met, needed-false, needed-sound, needed-each}
 use Rattle.schemes.specs.Scheme.{Scheme, image, Listed, Lawful}
 use Rattle.schemes.specs.Judging.{Arranges, FullOn, Has, copyBy, Comes, walkOf, literalsBy, neededBy, writtenBy, Certified, EarlierCopy}
 use Rattle.schemes.proofs.Images.{image-listed}

@@ -12,7 +12,7 @@ use Rattle.walk.specs.Walk.{Outcome, won, lost, still-open, walk}
 use Rattle.walk.specs.Clause.{Literal, clause}
 use Rattle.walk.specs.Earlier.{Earlier, copy}
 use Rattle.walk.specs.Meaning.{Full, Extends}
-use Rattle.dropping.specs.Enough.{literals, needed}
+use Rattle.needed.specs.Enough.{literals, needed}
 use Rattle.beginnings.specs.Beginning.{at}
 use Rattle.beginnings.specs.Order.{Before}
 use Rattle.beginnings.specs.Search.{Judgement, Found, searched, stepsNeeded}

@@ -41,7 +41,8 @@ use Rattle.exploring.specs.Found.{foundBy}
 use Rattle.graph.specs.Graph.{graphOf}
 use Rattle.judging.proofs.Arrangements.{padded-permitted}
 use Rattle.search.specs.Won.{IsWon}
-use Rattle.clause.proofs.CodeCertificate.{inverse-places, wins-there}
+use Rattle.dropped.proofs.Winning.{inverse-places}
+use Rattle.clause.proofs.CodeCertificate.{wins-there}
 use Rattle.judging.proofs.Certificates.{certificate-walk}
 
 pub taken-long : (n : ℕ) (es us : List ℕ) (starts : ℕ) → wellFormed (graphOf n es us starts) ≡ true → (start : List ℕ) (depth : ℕ) → length start ≡ 32 → depth ≤ n → length (take depth start) ≡ depth

@@ -1,12 +1,13 @@
 -- What the code's steps come to, one law for each answer.
-use Prim.Native.Nat.{ℕ, _+_, _≤_, _<_}
+use Prim.Native.Nat.{ℕ, _+_, _-_, _≤_, _<_}
 use native.Mathlib.Omega.{arith}
-use mathlib.Core.Path.{_≡_, sym, ap, _∙_}
+use mathlib.Core.Path.{_≡_, refl, sym, ap, ap₂, _∙_}
 use mathlib.Core.Logic.{_≢_}
 use mathlib.Core.Bool.{Bool, true, false}
 use mathlib.Core.List.{List}
 use lib.Dec.{eqb}
 use borrow.Author.Tests.{eq-eqb, ne-eqb}
+use Rattle.laws.specs.Compared.{by-below}
 use Rattle.laws.specs.Test.{both, pick}
 use Rattle.laws.specs.TestLaws.{both-hold, first-fails, second-fails, pick-true, pick-false}
 use Rattle.rows.specs.Rows.{entryIn}
@@ -14,55 +15,35 @@ use Rattle.arrangements.specs.Arrangement.{at}
 use Rattle.pairs.specs.Pairs.{Pair, pair}
 use Rattle.plain.specs.Before.{rowBefore}
 use Rattle.plain.specs.Plain.{samePair, pairOfTwo}
+use Rattle.plain.proofs.Before.{row-itself}
+use Rattle.plain.proofs.Plain.{samePair-tells, two-rising, two-falling}
 use Rattle.turns.specs.Turns.{turnBy, walkCode, Places}
 use Rattle.turns.proofs.CodeTurns.{place-first, place-last}
 use Rattle.kinds.specs.Kinds.{reached}
-use Rattle.trials.specs.After.{countHere, countThere, turnAfter, fromPair}
+use Rattle.trials.specs.After.{countAfter, turnAfter, fromPair}
 use Rattle.trials.proofs.Pairs.{from-here, from-down, from-last}
 
 -- ---- how an entry counts
 
--- in its own place
-module _ (a : ℕ) (late source b : Bool) (is-late : b ≡ late) where
-  pub here-first : b ≡ false → 0 ≡ countHere a late source
-  unfolding countHere
-  here-first f = sym (pick-false late _ 0 (sym is-late ∙ f))
+module _ (value a : ℕ) (first reaches b : Bool) (is-first : b ≡ first) where
+  pub counts-last : b ≡ false → value ≡ countAfter value a first reaches
+  unfolding countAfter
+  counts-last f = sym (pick-false first _ value (sym is-first ∙ f))
 
-  module _ (comes-late : b ≡ true) (c : Bool) (is-reached : c ≡ source) where
-    here-late : countHere a late source ≡ pick (both (eqb a 0) source) 0 1
-    unfolding countHere
-    here-late = pick-true late _ 0 (sym is-late ∙ comes-late)
+  module _ (comes-first : b ≡ true) (c : Bool) (is-reached : c ≡ reaches) where
+    counts-first : countAfter value a first reaches ≡ pick (both (eqb a value) reaches) value (1 - value)
+    unfolding countAfter
+    counts-first = pick-true first _ value (sym is-first ∙ comes-first)
 
-    pub here-unreached : c ≡ false → 1 ≡ countHere a late source
-    here-unreached f = sym (here-late ∙ pick-false _ 0 1 (second-fails (eqb a 0) source (sym is-reached ∙ f)))
-
-    module _ (x : ℕ) (e : x ≡ a) where
-      pub here-stays : c ≡ true → x ≡ 0 → 0 ≡ countHere a late source
-      here-stays t z = sym (here-late ∙ pick-true _ 0 1 (both-hold (eqb a 0) source (eq-eqb a 0 (sym e ∙ z)) (sym is-reached ∙ t)))
-
-      pub here-counts : x ≢ 0 → 1 ≡ countHere a late source
-      here-counts d = sym (here-late ∙ pick-false _ 0 1 (first-fails (eqb a 0) source (ne-eqb a 0 (λ z. d (e ∙ z)))))
-
--- as an image
-module _ (a : ℕ) (first here b : Bool) (is-first : b ≡ first) where
-  pub there-late : b ≡ false → 1 ≡ countThere a first here
-  unfolding countThere
-  there-late f = sym (pick-false first _ 1 (sym is-first ∙ f))
-
-  module _ (comes-first : b ≡ true) (c : Bool) (is-reached : c ≡ here) where
-    there-first : countThere a first here ≡ pick (both (eqb a 1) here) 1 0
-    unfolding countThere
-    there-first = pick-true first _ 1 (sym is-first ∙ comes-first)
-
-    pub there-unreached : c ≡ false → 0 ≡ countThere a first here
-    there-unreached f = sym (there-first ∙ pick-false _ 1 0 (second-fails (eqb a 1) here (sym is-reached ∙ f)))
+    pub counts-unreached : c ≡ false → 1 - value ≡ countAfter value a first reaches
+    counts-unreached f = sym (counts-first ∙ pick-false _ value (1 - value) (second-fails (eqb a value) reaches (sym is-reached ∙ f)))
 
     module _ (x : ℕ) (e : x ≡ a) where
-      pub there-stays : c ≡ true → x ≡ 1 → 1 ≡ countThere a first here
-      there-stays t z = sym (there-first ∙ pick-true _ 1 0 (both-hold (eqb a 1) here (eq-eqb a 1 (sym e ∙ z)) (sym is-reached ∙ t)))
+      pub counts-stays : c ≡ true → x ≡ value → value ≡ countAfter value a first reaches
+      counts-stays t z = sym (counts-first ∙ pick-true _ value (1 - value) (both-hold (eqb a value) reaches (eq-eqb a value (sym e ∙ z)) (sym is-reached ∙ t)))
 
-      pub there-none : x ≢ 1 → 0 ≡ countThere a first here
-      there-none d = sym (there-first ∙ pick-false _ 1 0 (first-fails (eqb a 1) here (ne-eqb a 1 (λ z. d (e ∙ z)))))
+      pub counts-other : x ≢ value → 1 - value ≡ countAfter value a first reaches
+      counts-other d = sym (counts-first ∙ pick-false _ value (1 - value) (first-fails (eqb a value) reaches (ne-eqb a value (λ z. d (e ∙ z)))))
 
 -- ---- what a pair does
 
@@ -74,9 +55,47 @@ module _ (n : ℕ) (p q : List ℕ) (h : Places n p q) (i j s : ℕ) (low : 1 �
   pub last-placed : s ≡ at q j → 1 ≤ s
   last-placed e = rw e (place-last n p q h i j low rising high)
 
+-- a pair that is its own image goes on where its entry counts as a gap
+pub gap-passes : (a b : ℕ) (own : Bool) → own ≡ true → a ≡ 0 → 0 ≡ turnBy a b own
+unfolding turnBy pick
+gap-passes a b own e z = rw (e, z) (at (eqb 0 b))
+  where
+    at : (s : Bool) → _≡_ {A = ℕ} 0 (pick s 0 0)
+    at true = refl
+    at false = refl
+
+-- it is its own source too
+module _ (n : ℕ) (p q : List ℕ) (h : Places n p q) (i j : ℕ) (low : 1 ≤ i) (rising : i < j) (high : j ≤ n) (u v : ℕ) (first : u ≡ at p i) (last : v ≡ at p j) where
+  own-source : pairOfTwo u v ≡ pair i j → pairOfTwo (at q i) (at q j) ≡ pair i j
+  own-source e = by-below u v straight crossed
+    where
+      row-is : pairOfTwo u v .row ≡ i
+      row-is = ap (λ (k : Pair). k .row) e
+
+      column-is : pairOfTwo u v .column ≡ j
+      column-is = ap (λ (k : Pair). k .column) e
+
+      straight : u < v → pairOfTwo (at q i) (at q j) ≡ pair i j
+      straight l =
+          let a : at p i ≡ i = sym first ∙ ap (λ (k : Pair). k .row) (sym (two-rising u v l)) ∙ row-is in
+          let b : at p j ≡ j = sym last ∙ ap (λ (k : Pair). k .column) (sym (two-rising u v l)) ∙ column-is in
+          ap₂ pairOfTwo (ap (at q) (sym a) ∙ h .undone i low (omega arith)) (ap (at q) (sym b) ∙ h .undone j (omega arith) high) ∙ two-rising i j rising
+
+      crossed : v ≤ u → pairOfTwo (at q i) (at q j) ≡ pair i j
+      crossed l =
+          let a : at p j ≡ i = sym last ∙ ap (λ (k : Pair). k .row) (sym (two-falling u v l)) ∙ row-is in
+          let b : at p i ≡ j = sym first ∙ ap (λ (k : Pair). k .column) (sym (two-falling u v l)) ∙ column-is in
+          ap₂ pairOfTwo (ap (at q) (sym a) ∙ h .undone j (omega arith) high) (ap (at q) (sym b) ∙ h .undone i low (omega arith)) ∙ two-falling j i (omega arith)
+
+  pub own-passes : (e w : List ℕ) (lastPair lastImage : Pair) (c : Bool) → c ≡ samePair (pairOfTwo u v) (pair i j) → c ≡ true → 0 ≡ turnAfter e w p q lastPair lastImage (pair i j)
+  unfolding turnAfter countAfter
+  own-passes e w lastPair lastImage c is t =
+      let own : pairOfTwo (at q i) (at q j) ≡ pair i j = own-source (samePair-tells .equal (pairOfTwo u v) (pair i j) (sym is ∙ t)) in
+      gap-passes _ _ _ (rw (← first, ← last) (sym is ∙ t)) (pick-false _ _ 0 (ap (λ (k : Pair). rowBefore k (pair i j)) own ∙ row-itself (pair i j)))
+
 pub turn-is : (e w p q : List ℕ) (lastPair lastImage : Pair) (i j s t u v a b r : ℕ) → s ≡ at q i → t ≡ at q j → u ≡ at p i → v ≡ at p j
-    → a ≡ countHere (entryIn e w i j) (rowBefore (pairOfTwo s t) (pair i j)) (reached lastImage (pairOfTwo s t))
-    → b ≡ countThere (entryIn e w u v) (rowBefore (pairOfTwo u v) (pair i j)) (reached lastPair (pairOfTwo u v))
+    → a ≡ countAfter 0 (entryIn e w i j) (rowBefore (pairOfTwo s t) (pair i j)) (reached lastImage (pairOfTwo s t))
+    → b ≡ countAfter 1 (entryIn e w u v) (rowBefore (pairOfTwo u v) (pair i j)) (reached lastPair (pairOfTwo u v))
     → r ≡ turnBy a b (samePair (pairOfTwo u v) (pair i j)) → r ≡ turnAfter e w p q lastPair lastImage (pair i j)
 unfolding turnAfter
 turn-is e w p q lastPair lastImage i j s t u v a b r ps pt pu pv pa pb h = h ∙ rw (pa, pb, ps, pt, pu, pv)

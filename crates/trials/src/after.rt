@@ -9,68 +9,45 @@ ghost use Rattle.plain.specs.Before.{rowBefore};
 ghost use Rattle.plain.specs.Plain.{pairOfTwo};
 ghost use Rattle.turns.specs.Turns.{walkCode, Places};
 ghost use Rattle.kinds.specs.Kinds.{reached};
-ghost use Rattle.trials.specs.After.{countHere, countThere, turnAfter, fromPair};
+ghost use Rattle.trials.specs.After.{countAfter, turnAfter, fromPair};
 use arrangements::places::vertex_at;
 use kinds::kind::is_reached_of;
 use rows::entries::entry_in;
 use turns::before::comes_before;
+use turns::walked::is_own;
 use turns::walked::turn_by;
 
-// 1 where the entry at (i, j), the image of the pair of s and t, counts as an edge: where that pair comes first, unless the
-// entry is a 0 that stays, as its source is reached up to (row, source).
-fn count_here<'a>(
+// How the entry of x and y counts at the pair (i, j), where the pair of s and t meets it too: as the value, unless that pair
+// comes first; then as the opposite, unless the entry is the value and stays, as that pair is reached up to (row, limit).
+fn count_after<'a>(
     edges: &'a [u32; 32],
     unknowns: &'a [u32; 32],
+    value: u32,
     row: u32,
-    source: u32,
+    limit: u32,
     i: u32,
     j: u32,
     s: u32,
     t: u32,
+    x: u32,
+    y: u32,
 ) -> u32
-    requires { ⌜ (1 ≤ row) × (1 ≤ source) × (1 ≤ i) × (i ≤ 32) × (1 ≤ j) × (j ≤ 32) × (1 ≤ s) × (1 ≤ t) ⌝ }
-    ensures { λ r. ⌜ r ≡ countHere (entryIn (now (edges .entry)) (now (unknowns .entry)) i j) (rowBefore (pairOfTwo s t) (pair i j)) (reached (pair row source) (pairOfTwo s t)) ⌝ }
+    requires { ⌜ (value ≤ 1) × (1 ≤ row) × (1 ≤ limit) × (1 ≤ s) × (1 ≤ t) × (1 ≤ x) × (x ≤ 32) × (1 ≤ y) × (y ≤ 32) ⌝ }
+    ensures { λ r. ⌜ r ≡ countAfter value (entryIn (now (edges .entry)) (now (unknowns .entry)) x y) (rowBefore (pairOfTwo s t) (pair i j)) (reached (pair row limit) (pairOfTwo s t)) ⌝ }
 {
     if comes_before(s, t, i, j) {
-        if is_reached_of(s, t, row, source) {
-            if entry_in(edges, unknowns, i, j) == 0 {
-                return 0;
+        if is_reached_of(s, t, row, limit) {
+            if entry_in(edges, unknowns, x, y) == value {
+                return value;
             }
-            return 1;
+            return 1 - value;
         }
-        return 1;
+        return 1 - value;
     }
-    0
+    value
 }
 
-// 1 where the entry of u and v counts as an edge at the pair (i, j) whose image it is: where this comes first, or the entry
-// is a 1 that stays, as it is reached up to (row, here).
-fn count_there<'a>(
-    edges: &'a [u32; 32],
-    unknowns: &'a [u32; 32],
-    row: u32,
-    here: u32,
-    i: u32,
-    j: u32,
-    u: u32,
-    v: u32,
-) -> u32
-    requires { ⌜ (1 ≤ row) × (1 ≤ here) × (1 ≤ u) × (u ≤ 32) × (1 ≤ v) × (v ≤ 32) ⌝ }
-    ensures { λ r. ⌜ r ≡ countThere (entryIn (now (edges .entry)) (now (unknowns .entry)) u v) (rowBefore (pairOfTwo u v) (pair i j)) (reached (pair row here) (pairOfTwo u v)) ⌝ }
-{
-    if comes_before(u, v, i, j) {
-        if is_reached_of(u, v, row, here) {
-            if entry_in(edges, unknowns, u, v) == 1 {
-                return 1;
-            }
-            return 0;
-        }
-        return 0;
-    }
-    1
-}
-
-// What the pair (i, j) does under the path.
+// What the pair (i, j) does under the path. A pair that is its own image is passed at once: most are.
 fn turn_after<'a>(
     edges: &'a [u32; 32],
     unknowns: &'a [u32; 32],
@@ -86,12 +63,15 @@ fn turn_after<'a>(
     requires { ⌜ (n ≤ 32) × Places n (now path) (now places) × (1 ≤ row) × (1 ≤ here) × (1 ≤ source) × (1 ≤ i) × (i < j) × (j ≤ n) ⌝ }
     ensures { λ r. ⌜ r ≡ turnAfter (now (edges .entry)) (now (unknowns .entry)) (now (path .entry)) (now (places .entry)) (pair row here) (pair row source) (pair i j) ⌝ }
 {
-    let s = vertex_at(places, i);
-    let t = vertex_at(places, j);
-    let a = count_here(edges, unknowns, row, source, i, j, s, t);
     let u = vertex_at(path, i);
     let v = vertex_at(path, j);
-    let b = count_there(edges, unknowns, row, here, i, j, u, v);
+    if is_own(i, j, u, v) {
+        return 0;
+    }
+    let s = vertex_at(places, i);
+    let t = vertex_at(places, j);
+    let a = count_after(edges, unknowns, 0, row, source, i, j, s, t, i, j);
+    let b = count_after(edges, unknowns, 1, row, here, i, j, u, v, u, v);
     turn_by(a, b, i, j, u, v)
 }
 

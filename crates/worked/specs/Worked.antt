@@ -15,8 +15,8 @@ use Rattle.walk.specs.Clause.{sameLiteral, among, numbered, clauseAfter, clause
 use Rattle.beginnings.specs.Beginning.{absent, mayFollow, children}
 use Rattle.beginnings.specs.Search.{whereOpen, subtree, subtrees, reached, onWon, tryAll, searched}
 use Rattle.beginnings.specs.Certificate.{withFirst, completed}
-use Rattle.dropping.specs.Kept.{kept}
-use Rattle.dropping.specs.Enough.{isWon, enough, literals, needed}
+use Rattle.needed.specs.Kept.{kept}
+use Rattle.needed.specs.Enough.{isWon, enough, literals, needed}
 use Rattle.schemes.specs.Judging.{walkOf, neededBy, writtenBy, judgementOf, judging, judged, found}
 use Rattle.plain.specs.Plain.{samePair, pairOfTwo, judgedOn}
 use Rattle.pairs.specs.Vertices.{orderFits}

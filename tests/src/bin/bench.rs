@@ -1,14 +1,16 @@
 //! Time per call, side by side in one run: the proved library (with the feature
 //! `library`), the Rust oracle and the C baseline. All do the whole work.
 //!
-//! Arguments name the kinds to measure; all without any.
+//! Arguments name the kinds to measure, and `clauses` the table of clauses; all without
+//! any.
 
-use std::env;
 use std::hint::black_box;
 use std::time::{Duration, Instant};
+use std::{env, iter};
 
 use oracle::graph::Graph;
 use oracle::judge::judge;
+use oracle::judge_plain::literals_met;
 use oracle::linked::Linked;
 use oracle::packing::{packed, packed_size};
 use oracle::random::Random;
@@ -123,8 +125,8 @@ fn short(order: u32) -> Vec<Call> {
     graphs.map(|graph| Call::JudgeRows(graph, FEW)).collect()
 }
 
-/// Smallest graphs with few unknowns, in blocks that keep the search finite.
-fn hard(order: u32) -> Vec<Call> {
+/// Endless graphs with few unknowns, in blocks that keep the search finite.
+fn in_blocks(order: u32) -> impl Iterator<Item = Graph> {
     let mut random = Random::new(200 + u64::from(order));
     let width = match order {
         8 | 16 => 8,
@@ -132,17 +134,35 @@ fn hard(order: u32) -> Vec<Call> {
         _ => 4,
     };
     let starts = (0..order).step_by(width).fold(0, |mask, v| mask | 1 << v);
-    let few = if order == 8 { 500 } else { 20_000 };
-    let mut calls = Vec::new();
-    while calls.len() < 4 {
-        let drawn = Graph { starts, ..samples::sprinkled(&mut random, order, 45, 2) };
-        let graph = samples::settled(drawn, 1_000_000);
-        let verdict = judge(&graph, 1_000_000, &mut [0; 496]).verdict;
-        if matches!(verdict, Verdict::Nothing { steps } if steps >= few) {
-            calls.push(Call::JudgeRows(graph, u32::MAX));
-        }
-    }
-    calls
+    iter::repeat_with(move || Graph { starts, ..samples::sprinkled(&mut random, order, 45, 2) })
+}
+
+/// The budget with which hard graphs are searched for.
+const HARD: u32 = 1_000_000;
+
+/// The fewest steps of a hard graph.
+fn many(order: u32) -> u32 {
+    if order == 8 { 500 } else { 20_000 }
+}
+
+/// Smallest graphs with few unknowns.
+fn hard(order: u32) -> Vec<Call> {
+    let is_hard = |graph: &Graph| {
+        let verdict = judge(graph, HARD, &mut [0; 496]).verdict;
+        matches!(verdict, Verdict::Nothing { steps } if steps >= many(order))
+    };
+    let settled = in_blocks(order).map(|graph| samples::settled(graph, HARD));
+    settled.filter(is_hard).take(4).map(|graph| Call::JudgeRows(graph, u32::MAX)).collect()
+}
+
+/// Graphs on the way to these, whose certificates are found late.
+fn late(order: u32) -> Vec<Call> {
+    let is_late = |graph: &Graph| {
+        let verdict = judge(graph, HARD, &mut [0; 496]).verdict;
+        matches!(verdict, Verdict::Smaller { steps, .. } if steps >= many(order))
+    };
+    let on_the_way = in_blocks(order).flat_map(|graph| samples::settling(graph, HARD));
+    on_the_way.filter(is_late).take(16).map(|graph| Call::JudgeRows(graph, u32::MAX)).collect()
 }
 
 /// Graphs in one block on which the budget ends the search.
@@ -201,6 +221,12 @@ const KINDS: &[Kind] = &[
     ("write", write),
 ];
 
+/// The kinds of the table of clauses. No smallest graph has one, so of the hard ones it
+/// has those on the way.
+const WITH_CLAUSES: &[Kind] = &[("easy", easy), ("short", short), ("hard", late)];
+
+const ORDERS: [u32; 4] = [8, 16, 24, 32];
+
 /// The time of this many rounds over all calls.
 fn timed(calls: &[Call], contender: &Contender, rounds: u32) -> Duration {
     let mut room = Room::EMPTY;
@@ -214,21 +240,21 @@ fn timed(calls: &[Call], contender: &Contender, rounds: u32) -> Duration {
     start.elapsed()
 }
 
-/// The nanoseconds of a call, the best of several turns that the contenders take
-/// one after another.
-fn measure(calls: &[Call]) -> Vec<f64> {
+/// The nanoseconds of a call, the best of several turns that these runs, calls of a
+/// contender, take one after another.
+fn measure(runs: &[(&[Call], &Contender)]) -> Vec<f64> {
     const TURNS: usize = 25;
     const TURN: Duration = Duration::from_millis(20);
-    let rounds: Vec<u32> = CONTENDERS
+    let rounds: Vec<u32> = runs
         .iter()
-        .map(|contender| {
+        .map(|(calls, contender)| {
             let once = timed(calls, contender, 1).max(Duration::from_nanos(1));
             (TURN.as_nanos() / once.as_nanos()).clamp(1, 1_000_000) as u32
         })
         .collect();
-    let mut best = vec![f64::INFINITY; CONTENDERS.len()];
+    let mut best = vec![f64::INFINITY; runs.len()];
     for _ in 0..TURNS {
-        for (index, contender) in CONTENDERS.iter().enumerate() {
+        for (index, (calls, contender)) in runs.iter().enumerate() {
             let spent = timed(calls, contender, rounds[index]).as_nanos() as f64;
             let made = f64::from(rounds[index]) * calls.len() as f64;
             best[index] = best[index].min(spent / made);
@@ -248,6 +274,13 @@ fn answers(calls: &[Call], contender: &Contender) -> Vec<(u64, Room)> {
         .collect()
 }
 
+/// The answers of the first contender, which the others must give too.
+fn same_answers(calls: &[Call]) -> Vec<(u64, Room)> {
+    let first = answers(calls, &CONTENDERS[0]);
+    assert!(CONTENDERS.iter().all(|contender| answers(calls, contender) == first));
+    first
+}
+
 /// The mean steps of judging rows; nothing for a kind of records.
 fn steps_told(calls: &[Call], answers: &[(u64, Room)]) -> String {
     let judged = calls.iter().all(|call| matches!(call, Call::JudgeRows(..)));
@@ -255,28 +288,89 @@ fn steps_told(calls: &[Call], answers: &[(u64, Room)]) -> String {
     if judged { format!("{:.1}", steps / answers.len() as f64) } else { "-".to_string() }
 }
 
-fn main() {
+/// The table of whole calls, a line for each order of a kind.
+fn print_calls(kinds: &[&Kind]) {
     print!("{:<6}{:>6}{:>11}", "kind", "order", "steps");
     for (name, _) in CONTENDERS {
         print!("{:>14}", format!("{name} ns"));
     }
     println!("{}", if cfg!(feature = "library") { "  library/c" } else { "" });
-    let asked: Vec<String> = env::args().skip(1).collect();
-    for (kind, make) in KINDS {
-        if !asked.is_empty() && !asked.iter().any(|name| name == kind) {
-            continue;
-        }
-        for order in [8, 16, 24, 32] {
+    for (kind, make) in kinds {
+        for order in ORDERS {
             let calls = make(order);
-            let first = answers(&calls, &CONTENDERS[0]);
-            assert!(CONTENDERS.iter().all(|contender| answers(&calls, contender) == first));
-            print!("{kind:<6}{order:>6}{:>11}", steps_told(&calls, &first));
-            let times = measure(&calls);
+            print!("{kind:<6}{order:>6}{:>11}", steps_told(&calls, &same_answers(&calls)));
+            let runs: Vec<_> = CONTENDERS.iter().map(|contender| (&calls[..], contender)).collect();
+            let times = measure(&runs);
             times.iter().for_each(|time| print!("{time:>14.1}"));
             if cfg!(feature = "library") {
                 print!("{:>11.2}", times[0] / times[times.len() - 1]);
             }
             println!();
         }
+    }
+}
+
+/// Calls that give a clause, the same calls with a step too few, and how many literals
+/// were met and kept.
+#[derive(Default)]
+struct Clauses {
+    told: Vec<Call>,
+    cut: Vec<Call>,
+    met: usize,
+    kept: usize,
+}
+
+impl Clauses {
+    /// Those of these calls that judge rows and give one.
+    fn of(calls: Vec<Call>) -> Clauses {
+        let mut clauses = Clauses::default();
+        for call in calls {
+            let Call::JudgeRows(graph, budget) = call else { continue };
+            let judgement = judge(&graph, budget, &mut [0; 496]);
+            if let Verdict::Smaller { steps, .. } = judgement.verdict {
+                clauses.told.push(call);
+                clauses.cut.push(Call::JudgeRows(graph, steps - 1));
+                clauses.met += literals_met(&graph, &judgement.arrangement).len();
+                clauses.kept += judgement.literals;
+            }
+        }
+        clauses
+    }
+}
+
+/// The table of clauses, a line for each order of a kind.
+fn print_clauses() {
+    print!("{:<8}{:>5}{:>8}{:>8}{:>8}", "clauses", "order", "graphs", "met", "kept");
+    for (name, _) in CONTENDERS {
+        print!("{:>14}{:>12}{:>12}", format!("{name} ns"), "cut ns", "told ns");
+    }
+    println!();
+    for (kind, make) in WITH_CLAUSES {
+        for order in ORDERS {
+            let Clauses { told, cut, met, kept } = Clauses::of(make(order));
+            same_answers(&told);
+            same_answers(&cut);
+            let graphs = told.len();
+            let mean = |literals: usize| literals as f64 / graphs as f64;
+            print!("{kind:<8}{order:>5}{graphs:>8}{:>8.1}{:>8.1}", mean(met), mean(kept));
+            let both = |contender| [(&told[..], contender), (&cut[..], contender)];
+            let runs: Vec<_> = CONTENDERS.iter().flat_map(both).collect();
+            for times in measure(&runs).chunks(2) {
+                print!("{:>14.1}{:>12.1}{:>12.1}", times[0], times[1], times[0] - times[1]);
+            }
+            println!();
+        }
+    }
+}
+
+fn main() {
+    let asked: Vec<String> = env::args().skip(1).collect();
+    let is_asked = |kind: &str| asked.is_empty() || asked.iter().any(|name| name == kind);
+    let kinds: Vec<&Kind> = KINDS.iter().filter(|(kind, _)| is_asked(kind)).collect();
+    if !kinds.is_empty() {
+        print_calls(&kinds);
+    }
+    if is_asked("clauses") {
+        print_clauses();
     }
 }

@@ -1,6 +1,7 @@
 use borrow.Author.Needs.{needs}
-use Rattle.clause.proofs.ClauseByKinds.{order-high, reorders, row-low, row-before, column-high, clause-counted, clause-written}
-use Rattle.clause.proofs.CodeDropped.{column-low, limit-low, limit-high}
+use Rattle.dropped.proofs.Winning.{order-high, reorders, row-low, row-before, column-high}
+use Rattle.dropped.proofs.CodeDropped.{column-low, limit-low, limit-high}
+use Rattle.clause.proofs.ClauseByKinds.{clause-counted, clause-written}
 use Rattle.clause.proofs.written.write_clause.Statement.{statement}
 use Rattle.clause.proofs.written.write_clause.Tie as tie
 

@@ -1,0 +1,40 @@
+-- The pairs in row order under an arrangement and its inverse.
+use Prim.Native.Nat.{ℕ, _≤_}
+use mathlib.Core.Path.{_≡_, ap₂, _∙_}
+use mathlib.Core.List.{List}
+use Rattle.laws.specs.Each.{Each}
+use Rattle.laws.specs.Pigeonhole.{Injects}
+use Rattle.needed.specs.Settled.{Turned}
+use Rattle.schemes.proofs.Images.{two-kept, image-two, image-listed}
+use Rattle.plain.specs.Plain.{samePair, pairOfTwo, image}
+use Rattle.plain.specs.Before.{rowBefore}
+use Rattle.plain.proofs.Plain.{samePair-tells, rows-lawful}
+use Rattle.plain.proofs.Before.{rows-ordered}
+use Rattle.arrangements.specs.Arrangement.{at, Reordering}
+use Rattle.composing.specs.Composed.{inverse}
+use Rattle.composing.proofs.Composing.{inverse-before, inverse-after, inverse-reordering}
+use Rattle.pairs.specs.Pairs.{pairs}
+
+module _ (n : ℕ) where
+  injects : (p : List ℕ) → Reordering n p → Injects n n (at p)
+  injects p r = record { low = r .low; high = r .high; once = r .once }
+
+  -- images under what undoes y on the places undo those under y
+  undone : (x y : List ℕ) → Reordering n y → ((i : ℕ) → 1 ≤ i → i ≤ n → at x (at y i) ≡ i) → Each (λ k. image x (image y k) ≡ k) (pairs n)
+  undone x y r e k m =
+      let t = rows-lawful n .places k m in
+      image-two (rows-lawful n) x (at y (k .row)) (at y (k .column)) (two-kept n (at y) (injects y r) t)
+      ∙ ap₂ pairOfTwo (e (k .row) (t .low) (t .high)) (e (k .column) (t .low′) (t .high′)) ∙ rows-lawful n .spelt k m
+
+  pub rows-turned : (p : List ℕ) → n ≤ 32 → Reordering n p → Turned samePair rowBefore (image p) (image (inverse n p)) (pairs n)
+  rows-turned p high r =
+      let back = inverse-reordering n p r high in
+      record {
+        tells = samePair-tells;
+        once = rows-lawful n .once;
+        order = rows-ordered n .precedes;
+        image-in = image-listed (rows-lawful n) p (injects p r);
+        source-in = image-listed (rows-lawful n) (inverse n p) (injects (inverse n p) back);
+        image-source = undone p (inverse n p) back (inverse-before n p r);
+        source-image = undone (inverse n p) p r (inverse-after n p r);
+      }

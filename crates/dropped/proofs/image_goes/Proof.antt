@@ -1,0 +1,30 @@
+use Rattle.dropped.proofs.Winning.{order-high, row-low, row-before, column-high}
+use Rattle.dropped.proofs.CodeDropped.{column-low, before-low, row-high, column-fits, inverse-tested, places-are, first-low, first-high, second-low, second-high, two-vertices, image-stands, image-falls}
+use Rattle.dropped.proofs.image_goes.Statement.{statement}
+use Rattle.dropped.proofs.image_goes.Tie as tie
+
+vertex-at-requires : tie.Need-vertex-at-requires
+vertex-at-requires c κs = (search row-low, search row-high)
+
+vertex-at-requires-2 : tie.Need-vertex-at-requires-2
+vertex-at-requires-2 c κs = (search column-low, search column-fits)
+
+kind-of-two-requires : tie.Need-kind-of-two-requires
+kind-of-two-requires c κs = (search order-high, search inverse-tested, search row-low, search column-low, search first-low, search first-high, search second-low, search second-high, search two-vertices)
+
+returns : tie.Need-returns
+returns c = search image-stands
+
+sub-wins-after : tie.Need-sub-wins-after
+sub-wins-after c = search column-low
+
+wins-after-requires : tie.Need-wins-after-requires
+wins-after-requires c κs = (search order-high, search places-are, search row-low, search row-before, search column-high, search column-low, search before-low)
+
+returns-2 : tie.Need-returns-2
+returns-2 c = search image-falls
+
+pub image-goes-spec : {M : Type 1} → statement M
+image-goes-spec =
+    tie.close
+    (tie.spec vertex-at-requires vertex-at-requires-2 kind-of-two-requires returns sub-wins-after wins-after-requires returns-2)
