@@ -17,7 +17,8 @@ use Rattle.walk.specs.Meeting.{literalsOf}
 use Rattle.walk.proofs.Clause.{among-listed}
 use Rattle.walk.proofs.Literals.{literals-in-words}
 use Rattle.needed.specs.Settled.{Turned, staying, imageGoes, pairGoes}
-use Rattle.needed.proofs.Pass.{not-later, needed-stays}
+use Rattle.needed.proofs.Splits.{not-later}
+use Rattle.needed.proofs.Pass.{needed-stays}
 use Rattle.schemes.specs.Judging.{walkOf, neededBy, writtenBy}
 use Rattle.plain.specs.Plain.{samePair, image}
 use Rattle.plain.specs.Before.{rowBefore}

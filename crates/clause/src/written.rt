@@ -136,6 +136,15 @@ pub fn write_clause<'a, 'b>(
     let here = limit_of(column, pair);
     let source = limit_of(column, image);
     write_pairs(
-        edges, unknowns, path, places, n, row, column, here, source, literals,
+        edges,
+        unknowns,
+        path,
+        places,
+        n,
+        row,
+        column,
+        here,
+        source,
+        literals,
     )
 }

@@ -73,7 +73,15 @@ pub fn image_goes<'a>(
         return false;
     }
     wins_after(
-        edges, unknowns, path, places, n, row, column, column, column - 1,
+        edges,
+        unknowns,
+        path,
+        places,
+        n,
+        row,
+        column,
+        column,
+        column - 1,
     )
 }
 
@@ -99,6 +107,14 @@ pub fn pair_goes<'a>(
         return false;
     }
     wins_after(
-        edges, unknowns, path, places, n, row, column, column - 1, column,
+        edges,
+        unknowns,
+        path,
+        places,
+        n,
+        row,
+        column,
+        column - 1,
+        column,
     )
 }

@@ -157,6 +157,8 @@ module _ (g : Graph) (p : List ℕ) (k : Pair) (wins : walkAll g p ≡ won k) wh
     pub clause-met : Each (λ z. (l : Literal Pair) × List·Memᴰ l (literalsOf g p) × (z ≡ signed l (numberOf (g .order) (pairIn l)))) (clauseOf g p)
     unfolding writtenBy
     clause-met z m =
-        let w = clause-written samePair-tells (neededOf g p) (pairs n) z m in
-        (w .literal, needed-literals (rows-lawful n) (pairs n) (λ j i. i) (entryAt g) p injects (w .literal) (w .listed),
-        w .written ∙ ap (signed (w .literal)) (number-in-pairs n (pairIn (w .literal)) (w .number) (w .place)))
+        let w = clause-written samePair-tells (neededOf g p) (pairs n) z m in (
+          w .literal,
+          needed-literals (rows-lawful n) (pairs n) (λ j i. i) (entryAt g) p injects (w .literal) (w .listed),
+          w .written ∙ ap (signed (w .literal)) (number-in-pairs n (pairIn (w .literal)) (w .number) (w .place)),
+        )

@@ -39,8 +39,8 @@ pub record LeastBy (h : Graph) (q : List ℕ) : Type 0 where
 abbrev pub BrokenBy : Graph → List ℕ → Graph → Type 0
 BrokenBy g p h = BreaksClause (pairs (g .order)) (clauseOf g p) (entryAt h)
 
--- z can't be dropped from these numbers, by which p is a certificate of what they say: there is a full drawing of g's order and blocks in
--- which every other number is false, and whose copy by p is not earlier
+-- z is needed among these numbers: there is a full drawing of g's order and blocks in which every other one is false, and whose copy by p
+-- is not earlier
 pub record Needs (g : Graph) (p : List ℕ) (numbers : List ℤ) (z : ℤ) : Type 0 where
   pub drawing : Graph
   pub full : FullGraph (g .order) (g .starts) drawing

@@ -19,7 +19,7 @@ use Rattle.needed.specs.Settled.{Turned, drivenTo, settled, upTo, stays,
 use Rattle.needed.proofs.Enough.{won-test}
 use Rattle.needed.proofs.Settled.{driven-late, driven-early, settled-known, one-way, not-itself, won-settled, WinsAt, wins-at}
 use Rattle.needed.proofs.Staying.{not-after, source-apart, met-by, up-to, Stays, edge-stays, gap-stays, stays-tells, stays-alike, upto-not-after}
-use Rattle.needed.proofs.Pass.{settled-where, staying-met, image-met, pair-left-out, image-left-out, pair-first, image-after, moved-w}
+use Rattle.needed.proofs.Winning.{settled-where, staying-met, image-met, pair-left-out, image-left-out, pair-first, image-after, moved-w}
 
 -- pairs at which two drawings are the same decide nothing
 earlier-after : {P : Type 0} (x y : P → ℕ) (us ys : List P) → Each (λ k. x k ≡ y k) us → Earlier (us ++ ys) x y ↔ Earlier ys x y

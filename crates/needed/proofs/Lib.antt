@@ -2,5 +2,8 @@ pub mod Kept
 pub mod Enough
 pub mod Settled
 pub mod Staying
+pub mod Splits
+pub mod Winning
+pub mod Without
 pub mod Pass
 pub mod After

@@ -2,139 +2,32 @@
 -- pair one may, and all others go.
 use Prim.Native.Nat.{ℕ, _≤_}
 use native.Mathlib.Omega.{arith}
-use native.Mathlib.Decide.{ℕ-discrete, decLe}
 use mathlib.Core.Path.{_≡_, refl, sym, _∙_, ap, subst}
-use mathlib.Core.Logic.{_⊎_, inl, inr, _≢_, _↔_}
+use mathlib.Core.Logic.{_⊎_, inl, inr, _≢_}
 use mathlib.Core.Bool.{Bool, true, false, not, true≢false}
-use mathlib.Core.List.{List, [], _∷_, _++_, map, append-assoc, List·Memᴰ, List·Memᴰ·head, List·Memᴰ·tail, List·Memᴰ·cases-cons, Memᴰ·append-left, Memᴰ·append-right, List·Memᴰ·append-cases, Memᴰ·map, Memᴰ·of-map, Memᴰ·cast}
-use lib.Dec.{eqb}
+use mathlib.Core.List.{List, [], _∷_, _++_, map, append-assoc, List·Memᴰ, List·Memᴰ·head, List·Memᴰ·tail, List·Memᴰ·cases-cons, Memᴰ·append-left, Memᴰ·append-right, List·Memᴰ·append-cases}
 use Rattle.laws.specs.Test.{either, pick}
-use Rattle.laws.specs.TestLaws.{fails, holds-or-fails, same-test, pick-true, pick-false, both-first, both-second, both-hold, one-holds, either-first, either-second}
-use Rattle.laws.specs.Each.{Each, each-first, each-rest}
+use Rattle.laws.specs.TestLaws.{fails, holds-or-fails, same-test, both-first, both-second, both-hold, one-holds, either-first, either-second}
+use Rattle.laws.specs.Each.{Each}
 use Rattle.laws.specs.ListLaws.{NoRepeats, mem-split}
 use Rattle.walk.specs.Walk.{won, walk}
-use Rattle.walk.specs.Clause.{Literal, absent, present, pairIn, FalseIn}
-use Rattle.walk.specs.Meeting.{met, listed, only, literalAt, literalsOf}
+use Rattle.walk.specs.Clause.{Literal, pairIn}
+use Rattle.walk.specs.Meeting.{met, listed, only, literalsOf}
 use Rattle.walk.proofs.Free.{not-before}
 use Rattle.walk.proofs.Meeting.{met-within}
 use Rattle.walk.proofs.Literals.{literals-in-words}
-use Rattle.walk.proofs.Only.{listed-tells, only-listed}
+use Rattle.walk.proofs.Only.{only-listed}
 use Rattle.walk.proofs.Put.{one-or-two}
 use Rattle.needed.specs.Kept.{those}
-use Rattle.needed.specs.Enough.{isWon, enough, literals, needed}
+use Rattle.needed.specs.Enough.{enough, literals, needed}
 use Rattle.needed.specs.Settled.{Turned, drivenTo, settled, stays, staying, winsBy, imageGoes, pairGoes}
 use Rattle.needed.proofs.Kept.{kept-by, those-are}
-use Rattle.needed.proofs.Enough.{won-test, false-known, literal-for, literals-exactly, enough-tells, enough-more}
-use Rattle.needed.proofs.Settled.{settled-known, settled-unknown, one-way, not-itself, walk-alike, WinsAt, wins-at, at-wins, loses-at}
-use Rattle.needed.proofs.Staying.{before-all, not-after, source-apart, met-by, Stays, edge-stays, gap-stays, stays-tells, stays-alike, stays-moved, stays-met, stays-known, other-stays, upto-not-after, upto-w}
-
--- ---- lists
-
--- an element at which a list without repeats splits does not stand after it
-pub not-later : {A : Type 0} (xs : List A) (k : A) (ys : List A) → NoRepeats (xs ++ k ∷ ys) → ¬ List·Memᴰ k ys
-unfolding NoRepeats
-not-later [] k ys h m = h .0 m
-not-later (x ∷ xs) k ys h m = not-later xs k ys (h .1) m
-
--- where the literals of ns split, ns does
-record SplitAt {P : Type 0} (x : P → ℕ) (ns : List P) (ls : List (Literal P)) (l : Literal P) (rs : List (Literal P)) : Type 0 where
-  first : List P
-  last : List P
-  split : ns ≡ first ++ pairIn l ∷ last
-  of-first : ls ≡ literalsOf x first
-  of-last : rs ≡ literalsOf x last
-
-literals-split : {P : Type 0} (x : P → ℕ) (ns : List P) (ls : List (Literal P)) (l : Literal P) (rs : List (Literal P)) → literalsOf x ns ≡ ls ++ l ∷ rs → SplitAt x ns ls l rs
-unfolding literalsOf literalAt pick
-literals-split x [] [] l rs e = absurd (let z : _≡_ {A = ℕ} 0 1 = cc in omega arith)
-literals-split x [] (y ∷ ls) l rs e = absurd (let z : _≡_ {A = ℕ} 0 1 = cc in omega arith)
-literals-split {P} x (j ∷ ns) ls l rs e = at (eqb (x j) 1) (eqb (x j) 0) ls refl refl e (λ ms f. literals-split x ns ms l rs f)
-  where
-    rest : List (Literal P)
-    rest = literalsOf x ns
-
-    more : (o z : Bool) → eqb (x j) 1 ≡ o → eqb (x j) 0 ≡ z → {ms : List (Literal P)} → SplitAt x ns ms l rs → SplitAt x (j ∷ ns) (pick o (absent j ∷ ms) (pick z (present j ∷ ms) ms)) l rs
-    more o z a b s =
-        record {
-          first = j ∷ s .first;
-          last = s .last;
-          split = ap (λ (n : List P). j ∷ n) (s .split);
-          of-first = rw (a, b, s .of-first) refl;
-          of-last = s .of-last;
-        }
-
-    here : (y : Literal P) → pairIn y ≡ j → y ≡ l → rest ≡ rs → SplitAt x (j ∷ ns) [] l rs
-    here y p q f = record { first = []; last = ns; split = ap (λ (i : P). i ∷ ns) (sym p ∙ ap pairIn q); of-first = refl; of-last = sym f }
-
-    at : (o z : Bool) (ms : List (Literal P)) → eqb (x j) 1 ≡ o → eqb (x j) 0 ≡ z → pick o (absent j ∷ rest) (pick z (present j ∷ rest) rest) ≡ ms ++ l ∷ rs
-        → ((ms : List (Literal P)) → rest ≡ ms ++ l ∷ rs → SplitAt x ns ms l rs) → SplitAt x (j ∷ ns) ms l rs
-    at true z [] a b e go =
-        let first-is : absent j ≡ l = cc in
-        let rest-is : rest ≡ rs = cc in
-        here (absent j) refl first-is rest-is
-    at true z (y ∷ ms) a b e go =
-        let same : absent j ≡ y = cc in
-        let rest-is : rest ≡ ms ++ l ∷ rs = cc in
-        rw (← same) (more true z a b (go ms rest-is))
-    at false true [] a b e go =
-        let first-is : present j ≡ l = cc in
-        let rest-is : rest ≡ rs = cc in
-        here (present j) refl first-is rest-is
-    at false true (y ∷ ms) a b e go =
-        let same : present j ≡ y = cc in
-        let rest-is : rest ≡ ms ++ l ∷ rs = cc in
-        rw (← same) (more false true a b (go ms rest-is))
-    at false false ms a b e go = more false false a b (go ms e)
-
--- the literals of x whose pairs pass a test are those of the drawing that has the entries of x there, and else none
-those-literals : {P : Type 0} (x y : P → ℕ) (s : P → Bool) (ns : List P) → Each (λ k. y k ≡ pick (s k) (x k) 2) ns
-    → those (λ (l : Literal P). s (pairIn l)) (literalsOf x ns) ≡ literalsOf y ns
-unfolding those literalsOf literalAt pick
-those-literals x y s [] h = refl
-those-literals {P} x y s (j ∷ ns) h = at (eqb (x j) 1) (eqb (x j) 0) (s j) refl refl refl (those-literals x y s ns (each-rest (λ k. y k ≡ pick (s k) (x k) 2) h))
-  where
-    test : Literal P → Bool
-    test l = s (pairIn l)
-
-    rest : List (Literal P)
-    rest = literalsOf y ns
-
-    here : (b : Bool) → s j ≡ b → y j ≡ pick b (x j) 2
-    here b e = rw e at (each-first (λ k. y k ≡ pick (s k) (x k) 2) h)
-
-    none : s j ≡ false → rest ≡ pick (eqb (y j) 1) (absent j ∷ rest) (pick (eqb (y j) 0) (present j ∷ rest) rest)
-    none e = rw (here false e) refl
-
-    at : (o z b : Bool) → eqb (x j) 1 ≡ o → eqb (x j) 0 ≡ z → s j ≡ b → those test (literalsOf x ns) ≡ rest
-        → those test (pick o (absent j ∷ literalsOf x ns) (pick z (present j ∷ literalsOf x ns) (literalsOf x ns))) ≡ pick (eqb (y j) 1) (absent j ∷ rest) (pick (eqb (y j) 0) (present j ∷ rest) rest)
-    at true z true c d e go = rw (e, here true e, c, go) refl
-    at true z false c d e go = rw (e, go) (none e)
-    at false true true c d e go = rw (e, here true e, c, d, go) refl
-    at false true false c d e go = rw (e, go) (none e)
-    at false false true c d e go = rw (here true e, c, d, go) refl
-    at false false false c d e go = rw go (none e)
-
--- ---- entries
-
-module _ {P : Type 0} (before : P → P → Bool) (src : P → P) (v : P → ℕ) (k : P) where
-  -- the settled entry of a drawing that has that of v, or none
-  pub settled-where : (y : P → ℕ) (s : Bool) → y k ≡ pick s (v k) 2 → settled before src y k ≡ pick s (settled before src v k) (drivenTo before src k)
-  unfolding settled pick
-  settled-where y true e = rw e refl
-  settled-where y false e = settled-unknown before src y k (omega arith)
-
-  -- it matters only where an unknown entry would be driven to the other value
-  pick-alike : (r s : Bool) → (settled before src v k ≢ drivenTo before src k → r ≡ s) → pick r (settled before src v k) (drivenTo before src k) ≡ pick s (settled before src v k) (drivenTo before src k)
-  unfolding pick
-  pick-alike r s h = at (ℕ-discrete (settled before src v k) (drivenTo before src k))
-    where
-      same-both : (b : Bool) → settled before src v k ≡ drivenTo before src k → pick b (settled before src v k) (drivenTo before src k) ≡ drivenTo before src k
-      same-both true e = e
-      same-both false e = refl
-
-      at : Dec (settled before src v k ≡ drivenTo before src k) → pick r (settled before src v k) (drivenTo before src k) ≡ pick s (settled before src v k) (drivenTo before src k)
-      at (yes e) = same-both r e ∙ sym (same-both s e)
-      at (no n) = rw (h n) refl
+use Rattle.needed.proofs.Enough.{false-known, enough-more}
+use Rattle.needed.proofs.Settled.{settled-known, one-way, not-itself, WinsAt, wins-at}
+use Rattle.needed.proofs.Staying.{not-after, source-apart, met-by, Stays, edge-stays, gap-stays, stays-tells, stays-alike, stays-moved, stays-met, stays-known, other-stays, upto-not-after}
+use Rattle.needed.proofs.Splits.{not-later, SplitAt, literals-split, those-literals}
+use Rattle.needed.proofs.Winning.{moved-w, pair-left-out, image-left-out, pair-first, image-after, image-met, all-win}
+use Rattle.needed.proofs.Without.{enough-by, has-pair, is-literal, literal-of, others, in-others, others-here, others-gone, none-enough}
 
 module _ {P : Type 0} {same before : P → P → Bool} {img src : P → P} {ks : List P} (t : Turned same before img src ks) (v : P → ℕ) (w : P)
     (wins : walk same img ks v ≡ won w) where
@@ -157,198 +50,9 @@ module _ {P : Type 0} {same before : P → P → Bool} {img src : P → P} {ks :
   mi : List·Memᴰ (img w) ks
   mi = t .image-in w mw
 
-  pub moved-w : img w ≢ w
-  moved-w e = omega (arith, at-w .one, at-w .zero, ap x e)
-
-  -- an entry that is met has its settled value among those that stay
-  keeps-or-settled : (k : P) → List·Memᴰ k ks → List·Memᴰ k (met same img ks v) → keeps false false k ≡ false → x k ≡ to k
-  keeps-or-settled k m i e = at (decLe (v k) 1)
-    where
-      at : Dec (v k ≤ 1) → x k ≡ to k
-      at (no n) = settled-unknown before src v k (omega arith)
-      at (yes h) = go (ℕ-discrete (v k) (to k))
-        where
-          go : Dec (v k ≡ to k) → x k ≡ to k
-          go (yes q) = settled-known before src v k h ∙ q
-          go (no n) = absurd (true≢false (sym (other-stays t v w wins k m i h n) ∙ e))
-
-  -- the entry at w stays only if it isn't left out, and so does that at its image
-  pub pair-left-out : (b : Bool) → keeps true b w ≡ false
-  pair-left-out b = fails (keeps true b w) (λ e. at (stays-tells t v w wins true b w .0 e))
-    where
-      at : Stays t v w wins true b w → ⊥
-      at (edge-stays a c d) = true≢false (sym d ∙ upto-w t v w wins)
-      at (gap-stays a c d) = omega (arith, a, at-w .one, settled-known before src v w (omega arith))
-
-  pub image-left-out : (a : Bool) → keeps a true (img w) ≡ false
-  image-left-out a = fails (keeps a true (img w)) (λ e. at (stays-tells t v w wins a true (img w) .0 e))
-    where
-      at : Stays t v w wins a true (img w) → ⊥
-      at (edge-stays b c d) = omega (arith, b, at-w .zero, settled-known before src v (img w) (omega arith))
-      at (gap-stays b c d) = true≢false (sym (rw (t .source-image w mw) at d) ∙ upto-w t v w wins)
-
-  -- where that at w stays, w comes before its source; where that at its image stays, w comes before this
-  pub pair-first : (a b : Bool) → keeps a b w ≡ true → before w (src w) ≡ true
-  pair-first a b e = at (stays-tells t v w wins a b w .0 e)
-    where
-      at : Stays t v w wins a b w → before w (src w) ≡ true
-      at (edge-stays c y z) = y
-      at (gap-stays c y z) = absurd (omega (arith, c, at-w .one, settled-known before src v w (omega arith)))
-
-  pub image-after : (a b : Bool) → keeps a b (img w) ≡ true → before w (img w) ≡ true
-  image-after a b e = at (stays-tells t v w wins a b (img w) .0 e)
-    where
-      at : Stays t v w wins a b (img w) → before w (img w) ≡ true
-      at (edge-stays c y z) = absurd (omega (arith, c, at-w .zero, settled-known before src v (img w) (omega arith)))
-      at (gap-stays c y z) = rw (t .source-image w mw) at y
-
-  -- ---- literals and the entries that stay
-
-  module _ (lits : List (Literal P)) (a b : Bool) where
-    -- literals of the entries that stay, and of any where an unknown one would be driven to the same, are enough where these win
-    enough-by : Each (λ k. x k ≢ to k → listed same k (map pairIn lits) ≡ keeps a b k) ks → enough same img ks v lits ≡ winsBy same before img src ks v w a b
-    unfolding enough winsBy staying only
-    enough-by h =
-        ap isWon
-        (walk-alike t (only same (map pairIn lits) v) (staying before src v w a b)
-        (λ k m.
-        settled-where before src v k (only same (map pairIn lits) v) (listed same k (map pairIn lits)) refl
-        ∙ pick-alike before src v k (listed same k (map pairIn lits)) (keeps a b k) (h k m)
-        ∙ sym (settled-where before src v k (staying before src v w a b) (keeps a b k) refl)))
-
-  -- a pair is listed where it has one of the literals
-  has-pair : (lits : List (Literal P)) (k : P) → (listed same k (map pairIn lits) ≡ true) ↔ ((l : Literal P) × List·Memᴰ l lits × (pairIn l ≡ k))
-  has-pair lits k = (
-    λ e. let s = Memᴰ·of-map pairIn lits (listed-tells (t .tells) k (map pairIn lits) .0 e) in (s .0, s .1, s .2),
-    λ h. listed-tells (t .tells) k (map pairIn lits) .1 (Memᴰ·cast (sym (h .2)) (Memᴰ·map pairIn (h .1))),
-  )
-
-  -- the image of a pair up to w is met
-  pub image-met : (k : P) → List·Memᴰ k ks → img k ≢ k → before w k ≡ false → List·Memᴰ (img k) (met same img ks v)
-  image-met k m n late =
-      let there = t .image-in k m in
-      met-by t v w wins (img k) there .1 (source-apart t (img k) there .1 (λ e. n (sym e ∙ t .source-image k m)), inr (rw (t .source-image k m) late))
-
-  -- an entry that is met, and stays where it would with nothing left out, has its settled value
-  pub staying-met : (a b : Bool) (k : P) → List·Memᴰ k ks → List·Memᴰ k (met same img ks v) → stays before src v w a b k ≡ stays before src v w false false k
-      → settled before src (staying before src v w a b) k ≡ settled before src v k
-  unfolding staying
-  staying-met a b k m i e = settled-where before src v k (staying before src v w a b) (keeps a b k) refl ∙ at (keeps a b k) refl
-    where
-      at : (s : Bool) → keeps a b k ≡ s → pick s (x k) (to k) ≡ x k
-      at true f = unfold pick in refl
-      at false f = unfold pick in sym (keeps-or-settled k m i (sym e ∙ f))
-
-  -- by the entries that stay, all of them, the walk is won at w
-  pub all-win : winsBy same before img src ks v w false false ≡ true
-  unfolding winsBy staying
-  all-win = won-test (walk same img ks y) .1 (at-wins t y w record { listed = mw; agrees = agrees; one = as-v w mw met-w ∙ at-w .one; zero = as-v (img w) mi met-i ∙ at-w .zero })
-    where
-      y : P → ℕ
-      y = staying before src v w false false
-
-      as-v : (k : P) → List·Memᴰ k ks → List·Memᴰ k (met same img ks v) → settled before src y k ≡ x k
-      as-v k m i = staying-met false false k m i refl
-
-      met-w : List·Memᴰ w (met same img ks v)
-      met-w = met-by t v w wins w mw .1 (moved-w, inl (not-itself t w mw))
-
-      met-i : List·Memᴰ (img w) (met same img ks v)
-      met-i = image-met w mw moved-w (not-itself t w mw)
-
-      agrees : (k : P) → List·Memᴰ k ks → before k w ≡ true → settled before src y (img k) ≡ settled before src y k
-      agrees k m b = at (one-or-two (t .tells) (img k) k)
-        where
-          late : before w k ≡ false
-          late = not-after t k w m mw b
-
-          at : (img k ≡ k) ⊎ (img k ≢ k) → settled before src y (img k) ≡ settled before src y k
-          at (inl e) = ap (settled before src y) e
-          at (inr n) =
-              as-v (img k) (t .image-in k m) (image-met k m n late) ∙ at-w .agrees k m b ∙ sym (as-v k m (met-by t v w wins k m .1 (n, inl late)))
-
-  -- ---- without some of the literals
-
   module _ (numbering : List P) (all : (k : P) → List·Memᴰ k ks → List·Memᴰ k numbering) where
     abbrev lits : List (Literal P)
     lits = literals same img ks v numbering
-
-    -- which literals there are
-    is-literal : (l : Literal P) → List·Memᴰ l (literals same img ks v numbering) ↔ (List·Memᴰ (pairIn l) numbering × List·Memᴰ (pairIn l) (met same img ks v) × FalseIn v l)
-    is-literal l = literals-exactly (t .tells) v img ks numbering l
-
-    -- a pair of ks that is met and known has one
-    literal-of : (k : P) → List·Memᴰ k ks → List·Memᴰ k (met same img ks v) → v k ≤ 1 → (l : Literal P) × List·Memᴰ l (literals same img ks v numbering) × (pairIn l ≡ k)
-    literal-of k m i h =
-        let l = literal-for v k h in
-        (l .0, is-literal (l .0) .1 (rw (l .1) (all k m), rw (l .1) i, l .2), l .1)
-
-    module _ (gone : P → Bool) where
-      -- the literals of other pairs
-      abbrev others : List (Literal P)
-      others = those (λ (l : Literal P). not (gone (pairIn l))) (literals same img ks v numbering)
-
-      abbrev y : P → ℕ
-      y = only same (map pairIn others) v
-
-      in-others : (l : Literal P) → List·Memᴰ l (literals same img ks v numbering) → gone (pairIn l) ≡ false → List·Memᴰ l others
-      in-others l m e = those-are (λ (l : Literal P). not (gone (pairIn l))) lits l .1 (m, ap not e)
-
-      there-settled : (k : P) → settled before src y k ≡ pick (listed same k (map pairIn others)) (x k) (to k)
-      unfolding only
-      there-settled k = settled-where before src v k y (listed same k (map pairIn others)) refl
-
-      others-here : (k : P) → List·Memᴰ k ks → List·Memᴰ k (met same img ks v) → gone k ≡ false → settled before src y k ≡ x k
-      others-here k m i e = at (decLe (v k) 1)
-        where
-          at : Dec (v k ≤ 1) → settled before src y k ≡ x k
-          at (yes h) =
-              let l = literal-of k m i h in
-              there-settled k ∙ pick-true (listed same k (map pairIn others)) (x k) (to k) (has-pair others k .1 (l .0, in-others (l .0) (l .1) (rw (l .2) e), l .2))
-          at (no h) =
-              there-settled k ∙ pick-alike before src v k (listed same k (map pairIn others)) true (λ n. absurd (n (settled-unknown before src v k (omega arith))))
-              ∙ (unfold pick in refl)
-
-      others-gone : (k : P) → gone k ≡ true → settled before src y k ≡ to k
-      others-gone k e =
-          there-settled k ∙ pick-false (listed same k (map pairIn others)) (x k) (to k)
-          (fails (listed same k (map pairIn others)) (λ h.
-          let l = has-pair others k .0 h in
-          let kept = those-are (λ (l : Literal P). not (gone (pairIn l))) lits (l .0) .0 (l .1) .1 in
-          true≢false (sym kept ∙ ap not (ap gone (l .2) ∙ e))))
-
-      -- where at a pair up to w this makes it 0 against 1, and no pair before that is touched, no part of them is enough
-      none-enough : (f : P) → List·Memᴰ f ks → before w f ≡ false
-          → ((k : P) → List·Memᴰ k ks → before k f ≡ true → img k ≢ k → (gone k ≡ false) × (gone (img k) ≡ false))
-          → settled before src y f ≡ 0 → settled before src y (img f) ≡ 1
-          → (zs : List (Literal P)) → Each (λ z. List·Memᴰ z others) zs → enough same img ks v zs ≡ false
-      none-enough f m reach clear zero one zs part =
-          fails (enough same img ks v zs) (λ e. loses-at t y f m agrees zero one (enough-tells (t .tells) in-ks img ks (λ k i. i) (t .image-in) v others .0 (enough-more (t .tells) in-ks img ks (λ k i. i) (t .image-in) v zs others part e)))
-        where
-          in-ks : P → Type 0
-          in-ks k = List·Memᴰ k ks
-
-          -- what comes before f comes before w
-          earlier : (k : P) → List·Memᴰ k ks → before k f ≡ true → before k w ≡ true
-          earlier k i b = at (one-or-two (t .tells) f w)
-            where
-              at : (f ≡ w) ⊎ (f ≢ w) → before k w ≡ true
-              at (inl e) = rw (← e) b
-              at (inr n) = before-all t k f w i m mw b (one-way t f w m mw n ∙ ap not reach)
-
-          agrees : (k : P) → List·Memᴰ k ks → before k f ≡ true → settled before src y (img k) ≡ settled before src y k
-          agrees k i b = at (one-or-two (t .tells) (img k) k)
-            where
-              late : before w k ≡ false
-              late = not-after t k w i mw (earlier k i b)
-
-              at : (img k ≡ k) ⊎ (img k ≢ k) → settled before src y (img k) ≡ settled before src y k
-              at (inl e) = ap (settled before src y) e
-              at (inr n) =
-                  let c = clear k i b n in
-                  others-here (img k) (t .image-in k i) (image-met k i n late) (c .1) ∙ at-w .agrees k i (earlier k i b) ∙ sym (others-here k i (met-by t v w wins k i .1 (n, inl late)) (c .0))
-
-    -- ---- the pass
 
     -- each number is of one pair, and where w comes before its image so do their numbers
     module _ (once : NoRepeats numbering) (rising : before w (img w) ≡ true → (us ys : List P) → numbering ≡ us ++ img w ∷ ys → ¬ List·Memᴰ w ys) where
@@ -371,19 +75,19 @@ module _ {P : Type 0} {same before : P → P → Bool} {img src : P → P} {ks :
           at true true e f = absurd (true≢false (sym (both-first (not ig) _ f) ∙ ap not e))
           at true false e f = both-second (keeps false false (img w)) _ e
           at false true e f = both-second (keeps false false w) _ (both-second (not ig) _ f)
-          at false false e f = all-win
+          at false false e f = all-win t v w wins
 
       -- one that stays has its literal
       stays-literal : (a b : Bool) (k : P) → List·Memᴰ k ks → keeps a b k ≡ true → (l : Literal P) × List·Memᴰ l (literals same img ks v numbering) × (pairIn l ≡ k)
-      stays-literal a b k m e = let s = stays-tells t v w wins a b k .0 e in literal-of k m (stays-met t v w wins k m s) (stays-known t v w wins k m s)
+      stays-literal a b k m e = let s = stays-tells t v w wins a b k .0 e in literal-of t v w wins numbering all k m (stays-met t v w wins k m s) (stays-known t v w wins k m s)
 
       those-win : enough same img ks v (those keptTest (literals same img ks v numbering)) ≡ true
       those-win =
-          enough-by (those keptTest lits) pg ig
+          enough-by t v w wins (those keptTest lits) pg ig
           (λ k m n.
           same-test (listed same k (map pairIn (those keptTest lits))) (keeps pg ig k)
-          (λ e. let l = has-pair (those keptTest lits) k .0 e in rw (← l .2) (those-are keptTest lits (l .0) .0 (l .1) .1))
-          (λ e. let l = stays-literal pg ig k m e in has-pair (those keptTest lits) k .1 (l .0, those-are keptTest lits (l .0) .1 (l .1, rw (l .2) e), l .2)))
+          (λ e. let l = has-pair t v w wins (those keptTest lits) k .0 e in rw (← l .2) (those-are keptTest lits (l .0) .0 (l .1) .1))
+          (λ e. let l = stays-literal pg ig k m e in has-pair t v w wins (those keptTest lits) k .1 (l .0, those-are keptTest lits (l .0) .1 (l .1, rw (l .2) e), l .2)))
           ∙ kept-win
 
       -- a literal with those before and after it
@@ -463,13 +167,13 @@ module _ {P : Type 0} {same before : P → P → Bool} {img src : P → P} {ks :
             → ((k : P) → List·Memᴰ k ks → keeps a b k ≡ true → (k ≢ pairIn l) × (List·Memᴰ k (parts .last) → keeps pg ig k ≡ true))
             → enough same img ks v (ls ++ those keptTest rs) ≡ winsBy same before img src ks v w a b
         left-by a b more back =
-            enough-by left a b
-            (λ k m n. same-test (listed same k (map pairIn left)) (keeps a b k) (λ e. to-keeps k m n (has-pair left k .0 e)) (λ e. has-pair left k .1 (from-keeps k m e)))
+            enough-by t v w wins left a b
+            (λ k m n. same-test (listed same k (map pairIn left)) (keeps a b k) (λ e. to-keeps k m n (has-pair t v w wins left k .0 e)) (λ e. has-pair t v w wins left k .1 (from-keeps k m e)))
           where
             to-keeps : (k : P) → List·Memᴰ k ks → x k ≢ to k → (z : Literal P) × List·Memᴰ z (ls ++ those keptTest rs) × (pairIn z ≡ k) → keeps a b k ≡ true
             to-keeps k m n (z, i, e) =
                 let side = left-listed z i in
-                let h = is-literal z .0 (in-lits z side) in
+                let h = is-literal t v w wins numbering all z .0 (in-lits z side) in
                 let known : v k ≤ 1 = rw e at (false-known v z (h .2)) in
                 more k m (λ q. other-pair z side (e ∙ q)) (other-stays t v w wins k m (rw e at (h .1)) known (λ q. n (settled-known before src v k known ∙ q)))
 
@@ -492,10 +196,10 @@ module _ {P : Type 0} {same before : P → P → Bool} {img src : P → P} {ks :
             kept-image = rw q at e
 
             stayed : ig ≡ false
-            stayed = fails ig (λ g. true≢false (sym kept-image ∙ ap (λ (b : Bool). keeps pg b (img w)) g ∙ image-left-out pg))
+            stayed = fails ig (λ g. true≢false (sym kept-image ∙ ap (λ (b : Bool). keeps pg b (img w)) g ∙ image-left-out t v w wins pg))
 
             all-stay : keeps false false (img w) ≡ true
-            all-stay = stays-alike t v w wins false false pg ig (img w) mi (inl moved-w) (inr (sym stayed)) ∙ kept-image
+            all-stay = stays-alike t v w wins false false pg ig (img w) mi (inl (moved-w t v w wins)) (inr (sym stayed)) ∙ kept-image
 
             tried : winsBy same before img src ks v w false true ≡ false
             tried = fails (winsBy same before img src ks v w false true) (λ g. true≢false (sym (both-hold (keeps false false (img w)) _ all-stay g) ∙ stayed))
@@ -510,13 +214,13 @@ module _ {P : Type 0} {same before : P → P → Bool} {img src : P → P} {ks :
             back k m f = (
               λ p. other (p ∙ q),
               λ i.
-              stays-alike t v w wins pg ig false true k m
-              (inl (λ p. rising (image-after false false all-stay) (parts .first) (parts .last) (parts .split ∙ ap (λ (j : P). parts .first ++ j ∷ parts .last) q) (rw p at i)))
-              (inl (source-other k m other)) ∙ f,
+                  stays-alike t v w wins pg ig false true k m
+                  (inl (λ p. rising (image-after t v w wins false false all-stay) (parts .first) (parts .last) (parts .split ∙ ap (λ (j : P). parts .first ++ j ∷ parts .last) q) (rw p at i)))
+                  (inl (source-other k m other)) ∙ f,
             )
               where
                 other : k ≢ img w
-                other p = true≢false (sym f ∙ ap (keeps false true) p ∙ image-left-out false)
+                other p = true≢false (sym f ∙ ap (keeps false true) p ∙ image-left-out t v w wins false)
 
         -- that of w, where the walk is not won without it or that of its image is gone
         pair-stays : pairIn l ≡ w → keptTest l ≡ true → enough same img ks v (ls ++ those keptTest rs) ≡ false
@@ -527,16 +231,16 @@ module _ {P : Type 0} {same before : P → P → Bool} {img src : P → P} {ks :
             kept-pair = rw q at e
 
             stayed : pg ≡ false
-            stayed = fails pg (λ g. true≢false (sym kept-pair ∙ ap (λ (a : Bool). keeps a ig w) g ∙ pair-left-out ig))
+            stayed = fails pg (λ g. true≢false (sym kept-pair ∙ ap (λ (a : Bool). keeps a ig w) g ∙ pair-left-out t v w wins ig))
 
             source-apart-w : src w ≢ w
-            source-apart-w = source-apart t w mw .0 moved-w
+            source-apart-w = source-apart t w mw .0 (moved-w t v w wins)
 
             all-stay : keeps false false w ≡ true
             all-stay = stays-alike t v w wins false false pg ig w mw (inr (sym stayed)) (inl source-apart-w) ∙ kept-pair
 
             first : before w (src w) ≡ true
-            first = pair-first false false all-stay
+            first = pair-first t v w wins false false all-stay
 
             more : (k : P) → List·Memᴰ k ks → k ≢ pairIn l → keeps false false k ≡ true → keeps true false k ≡ true
             more k m n f = stays-alike t v w wins true false false false k m (inl (λ p. n (p ∙ sym q))) (inr refl) ∙ f
@@ -545,7 +249,7 @@ module _ {P : Type 0} {same before : P → P → Bool} {img src : P → P} {ks :
             back g k m f = (λ p. other (p ∙ q), λ i. stays-alike t v w wins pg ig true false k m (inl other) (inr g) ∙ f)
               where
                 other : k ≢ w
-                other p = true≢false (sym f ∙ ap (keeps true false) p ∙ pair-left-out false)
+                other p = true≢false (sym f ∙ ap (keeps true false) p ∙ pair-left-out t v w wins false)
 
             -- w and its image
             two : P → Bool
@@ -560,23 +264,23 @@ module _ {P : Type 0} {same before : P → P → Bool} {img src : P → P} {ks :
 
             at : (ig ≡ true) ⊎ (ig ≡ false) → enough same img ks v (ls ++ those keptTest rs) ≡ false
             at (inr g) = left-by true false more (back g) ∙ fails (winsBy same before img src ks v w true false) (λ h. true≢false (sym (both-hold (not ig) _ (ap not g) (both-hold (keeps false false w) _ all-stay h)) ∙ stayed))
-            at (inl g) = none-enough two w mw (not-itself t w mw) clear zero one left part
+            at (inl g) = none-enough t v w wins numbering all two w mw (not-itself t w mw) clear zero one left part
               where
                 later : before w (img w) ≡ true
-                later = image-after false false (both-first (keeps false false (img w)) _ g)
+                later = image-after t v w wins false false (both-first (keeps false false (img w)) _ g)
 
                 clear : (k : P) → List·Memᴰ k ks → before k w ≡ true → img k ≢ k → (two k ≡ false) × (two (img k) ≡ false)
                 clear k m b n = (
                   not-two k (λ p. true≢false (sym b ∙ ap (λ (j : P). before j w) p ∙ not-itself t w mw)) (λ p. true≢false (sym b ∙ ap (λ (j : P). before j w) p ∙ not-after t w (img w) mw mi later)),
                   not-two (img k) (λ p. true≢false (sym b ∙ ap (λ (j : P). before j w) (sym (t .source-image k m) ∙ ap src p) ∙ not-after t w (src w) mw (t .source-in w mw) first))
-                  (λ p. true≢false (sym b ∙ ap (λ (j : P). before j w) (sym (t .source-image k m) ∙ ap src p ∙ t .source-image w mw) ∙ not-itself t w mw)),
+                      (λ p. true≢false (sym b ∙ ap (λ (j : P). before j w) (sym (t .source-image k m) ∙ ap src p ∙ t .source-image w mw) ∙ not-itself t w mw)),
                 )
 
-                zero : settled before src (only same (map pairIn (others two)) v) w ≡ 0
-                zero = others-gone two w (either-first (same w w) _ (t .tells .itself w)) ∙ (unfold drivenTo pick in rw (not-after t w (src w) mw (t .source-in w mw) first) refl)
+                zero : settled before src (only same (map pairIn (others t v w wins numbering all two)) v) w ≡ 0
+                zero = others-gone t v w wins numbering all two w (either-first (same w w) _ (t .tells .itself w)) ∙ (unfold drivenTo pick in rw (not-after t w (src w) mw (t .source-in w mw) first) refl)
 
-                one : settled before src (only same (map pairIn (others two)) v) (img w) ≡ 1
-                one = others-gone two (img w) (either-second (same (img w) w) _ (t .tells .itself (img w))) ∙ (unfold drivenTo pick in rw (t .source-image w mw, later) refl)
+                one : settled before src (only same (map pairIn (others t v w wins numbering all two)) v) (img w) ≡ 1
+                one = others-gone t v w wins numbering all two (img w) (either-second (same (img w) w) _ (t .tells .itself (img w))) ∙ (unfold drivenTo pick in rw (t .source-image w mw, later) refl)
 
                 not-gone : (z : Literal P) → List·Memᴰ z ls ⊎ (List·Memᴰ z rs × (keptTest z ≡ true)) → pairIn z ≢ img w
                 not-gone z (inl i) p =
@@ -584,17 +288,17 @@ module _ {P : Type 0} {same before : P → P → Bool} {img src : P → P} {ks :
                     let whole : numbering ≡ s .0 ++ img w ∷ (s .1 ++ w ∷ parts .last) =
                     parts .split ∙ ap (λ (j : P). parts .first ++ j ∷ parts .last) q ∙ ap (λ (us : List P). us ++ w ∷ parts .last) (s .2) ∙ append-assoc (s .0) (img w ∷ s .1) (w ∷ parts .last) in
                     rising later (s .0) (s .1 ++ w ∷ parts .last) whole (Memᴰ·append-right (s .1) (List·Memᴰ·head refl))
-                not-gone z (inr h) p = true≢false (sym (h .1) ∙ ap (keeps pg ig) p ∙ ap (λ (b : Bool). keeps pg b (img w)) g ∙ image-left-out pg)
+                not-gone z (inr h) p = true≢false (sym (h .1) ∙ ap (keeps pg ig) p ∙ ap (λ (b : Bool). keeps pg b (img w)) g ∙ image-left-out t v w wins pg)
 
-                part : Each (λ z. List·Memᴰ z (others two)) (ls ++ those keptTest rs)
-                part z m = in-others two z (in-lits z (left-listed z m)) (not-two (pairIn z) (λ p. other-pair z (left-listed z m) (p ∙ sym q)) (not-gone z (left-is z m)))
+                part : Each (λ z. List·Memᴰ z (others t v w wins numbering all two)) (ls ++ those keptTest rs)
+                part z m = in-others t v w wins numbering all two z (in-lits z (left-listed z m)) (not-two (pairIn z) (λ p. other-pair z (left-listed z m) (p ∙ sym q)) (not-gone z (left-is z m)))
 
         -- any other, since without it the walk is lost where it is first met
         other-needed : pairIn l ≢ w → pairIn l ≢ img w → keptTest l ≡ true → enough same img ks v (ls ++ those keptTest rs) ≡ false
         other-needed nw ni e = at (stays-tells t v w wins pg ig c .0 e)
           where
             i : List·Memᴰ c (met same img ks v)
-            i = is-literal l .0 listed-l .1
+            i = is-literal t v w wins numbering all l .0 listed-l .1
 
             m : List·Memᴰ c ks
             m = met-within same img (λ k. List·Memᴰ k ks) ks (λ k j. j) (t .image-in) v c i
@@ -608,14 +312,14 @@ module _ {P : Type 0} {same before : P → P → Bool} {img src : P → P} {ks :
             not-it : (k : P) → k ≢ pairIn l → it k ≡ false
             not-it k n = fails (it k) (λ h. n (t .tells .equal k c h))
 
-            part : Each (λ z. List·Memᴰ z (others it)) (ls ++ those keptTest rs)
-            part z j = in-others it z (in-lits z (left-listed z j)) (not-it (pairIn z) (other-pair z (left-listed z j)))
+            part : Each (λ z. List·Memᴰ z (others t v w wins numbering all it)) (ls ++ those keptTest rs)
+            part z j = in-others t v w wins numbering all it z (in-lits z (left-listed z j)) (not-it (pairIn z) (other-pair z (left-listed z j)))
 
-            gone-settled : settled before src (only same (map pairIn (others it)) v) c ≡ to c
-            gone-settled = others-gone it c (t .tells .itself c)
+            gone-settled : settled before src (only same (map pairIn (others t v w wins numbering all it)) v) c ≡ to c
+            gone-settled = others-gone t v w wins numbering all it c (t .tells .itself c)
 
             at : Stays t v w wins pg ig (pairIn l) → enough same img ks v (ls ++ those keptTest rs) ≡ false
-            at (edge-stays a b d) = none-enough it c m late clear (gone-settled ∙ (unfold drivenTo pick in rw (not-after t c (src c) m ms b) refl)) one left part
+            at (edge-stays a b d) = none-enough t v w wins numbering all it c m late clear (gone-settled ∙ (unfold drivenTo pick in rw (not-after t c (src c) m ms b) refl)) one left part
               where
                 late : before w c ≡ false
                 late = upto-not-after t v w wins pg c m d
@@ -629,12 +333,12 @@ module _ {P : Type 0} {same before : P → P → Bool} {img src : P → P} {ks :
                   not-it (img k) (λ p. true≢false (sym h ∙ ap (λ (j : P). before j c) (sym (t .source-image k mk) ∙ ap src p) ∙ not-after t c (src c) m ms b)),
                 )
 
-                one : settled before src (only same (map pairIn (others it)) v) (img c) ≡ 1
+                one : settled before src (only same (map pairIn (others t v w wins numbering all it)) v) (img c) ≡ 1
                 one =
-                    others-here it (img c) (t .image-in c m) (image-met c m moved late) (not-it (img c) moved)
+                    others-here t v w wins numbering all it (img c) (t .image-in c m) (image-met t v w wins c m moved late) (not-it (img c) moved)
                     ∙ at-w .agrees c m (one-way t c w m mw nw ∙ ap not late) ∙ settled-known before src v c (omega arith) ∙ a
             at (gap-stays a b d) =
-                none-enough it (src c) ms late clear zero (ap (settled before src (only same (map pairIn (others it)) v)) (t .image-source c m) ∙ gone-settled ∙ (unfold drivenTo pick in rw b refl)) left part
+                none-enough t v w wins numbering all it (src c) ms late clear zero (ap (settled before src (only same (map pairIn (others t v w wins numbering all it)) v)) (t .image-source c m) ∙ gone-settled ∙ (unfold drivenTo pick in rw b refl)) left part
               where
                 late : before w (src c) ≡ false
                 late = upto-not-after t v w wins ig (src c) ms d
@@ -648,9 +352,9 @@ module _ {P : Type 0} {same before : P → P → Bool} {img src : P → P} {ks :
                   not-it (img k) (λ p. true≢false (sym h ∙ ap (λ (j : P). before j (src c)) (sym (t .source-image k mk) ∙ ap src p) ∙ not-itself t (src c) ms)),
                 )
 
-                zero : settled before src (only same (map pairIn (others it)) v) (src c) ≡ 0
+                zero : settled before src (only same (map pairIn (others t v w wins numbering all it)) v) (src c) ≡ 0
                 zero =
-                    others-here it (src c) ms (met-by t v w wins (src c) ms .1 (λ p. moved (sym p ∙ t .image-source c m), inl late)) (not-it (src c) moved)
+                    others-here t v w wins numbering all it (src c) ms (met-by t v w wins (src c) ms .1 (λ p. moved (sym p ∙ t .image-source c m), inl late)) (not-it (src c) moved)
                     ∙ sym (at-w .agrees (src c) ms (one-way t (src c) w ms mw (λ p. ni (sym (t .image-source c m) ∙ ap img p)) ∙ ap not late))
                     ∙ ap x (t .image-source c m) ∙ settled-known before src v c (omega arith) ∙ a
 
