@@ -16,10 +16,10 @@ use Rattle.walk.specs.Clause.{Literal, absent, present, among, numbered, clause
 use Rattle.walk.specs.Meeting.{literalsOf}
 use Rattle.walk.proofs.Clause.{among-listed}
 use Rattle.walk.proofs.Literals.{literals-in-words}
-use Rattle.needed.specs.Settled.{Turned, staying, imageGoes, pairGoes}
+use Rattle.needed.specs.Settled.{WonWalk, staying, imageGoes, pairGoes}
 use Rattle.needed.proofs.Splits.{not-later}
 use Rattle.needed.proofs.Pass.{needed-stays}
-use Rattle.schemes.specs.Judging.{walkOf, neededBy, writtenBy}
+use Rattle.schemes.specs.Judging.{neededBy, writtenBy}
 use Rattle.plain.specs.Plain.{samePair, image}
 use Rattle.plain.specs.Before.{rowBefore}
 use Rattle.plain.proofs.Plain.{samePair-tells, rows-lawful}
@@ -35,7 +35,7 @@ use Rattle.judging.specs.Judging.{walkAll, neededOf, clauseOf}
 use Rattle.kinds.specs.Kinds.{kindAt}
 use Rattle.dropped.specs.Limit.{limit}
 use Rattle.dropped.proofs.Limits.{kind-edge, kind-gap}
-use Rattle.dropped.proofs.Winning.{turned, winning-is, source-is, order-high, reorders}
+use Rattle.dropped.proofs.Winning.{won-walk, winning-is, source-is, order-high, reorders}
 use Rattle.clause.specs.Clauses.{writtenFor, writtenAlong, Wrote}
 
 -- the literals of a drawing are told by its entries
@@ -71,17 +71,11 @@ along-clause t lits i (j ∷ ks) h =
     (numbered-front (eqb (t j) 1) (eqb (t j) 2) (suc i) (clauseAfter samePair lits (suc i) ks))
 
 module _ (g : Graph) (p : List ℕ) (high : g .order ≤ 32) (r : Reordering (g .order) p) (row column : ℕ) (wins : walkAll g p ≡ won (pair row column)) where
-  abbrev n : ℕ
-  n = g .order
-
-  abbrev q : List ℕ
-  q = inverse (g .order) p
-
   abbrev w : Pair
   w = pair row column
 
-  t : Turned samePair rowBefore (image p) (image (inverse (g .order) p)) (pairs (g .order))
-  t = turned g p high r row column wins
+  walked : WonWalk samePair rowBefore (image p) (image (inverse (g .order) p)) (pairs (g .order)) (entryAt g) (pair row column)
+  walked = won-walk g p high r row column wins
 
   between : Between 1 (g .order) (pair row column)
   between = winning-is g p high r row column wins
@@ -96,26 +90,26 @@ module _ (g : Graph) (p : List ℕ) (high : g .order ≤ 32) (r : Reordering (g 
   -- where the winning pair comes before its image, so does its number
   rising : rowBefore (pair row column) (image p (pair row column)) ≡ true → (us ys : List Pair) → pairs (g .order) ≡ us ++ image p (pair row column) ∷ ys → ¬ List·Memᴰ (pair row column) ys
   rising e us ys split m =
-      let s = mem-split w us (t .order us (image p w) ys split w (pairs-has n w between) .0 e) in
-      let whole : pairs n ≡ s .0 ++ w ∷ (s .1 ++ image p w ∷ ys) = split ∙ ap (λ (l : List Pair). l ++ image p w ∷ ys) (s .2) ∙ append-assoc (s .0) (w ∷ s .1) (image p w ∷ ys) in
-      let once : NoRepeats (s .0 ++ w ∷ (s .1 ++ image p w ∷ ys)) = rw whole at (rows-lawful n .once) in
+      let s = mem-split w us (walked .turned .order us (image p w) ys split w (pairs-has (g .order) w between) .0 e) in
+      let whole : pairs (g .order) ≡ s .0 ++ w ∷ (s .1 ++ image p w ∷ ys) = split ∙ ap (λ (l : List Pair). l ++ image p w ∷ ys) (s .2) ∙ append-assoc (s .0) (w ∷ s .1) (image p w ∷ ys) in
+      let once : NoRepeats (s .0 ++ w ∷ (s .1 ++ image p w ∷ ys)) = rw whole at (rows-lawful (g .order) .once) in
       not-later (s .0) w (s .1 ++ image p w ∷ ys) once (Memᴰ·append-right (s .1) (List·Memᴰ·tail m))
 
   -- the literals that are kept are those of the entries that stay
   kept-literals : neededOf g p ≡ literalsOf (staying rowBefore (image (inverse (g .order) p)) (entryAt g) (pair row column) pairDrops imageDrops) (pairs (g .order))
-  unfolding neededBy walkOf
-  kept-literals = needed-stays t (entryAt g) w wins (pairs n) (λ k m. m) (rows-lawful n .once) rising (λ k m. m)
+  unfolding neededBy
+  kept-literals = needed-stays walked record { all = λ k m. m; inside = λ k m. m; once = rows-lawful (g .order) .once; rising = rising }
 
   -- so the pass writes the clause
   pub kinds-clause : writtenAlong (kindAt (g .edges) (g .unknowns) (inverse (g .order) p) (pair row (limit pairDrops column)) (pair row (limit imageDrops column))) 0 (pairs (g .order)) ≡ clauseOf g p
   unfolding writtenBy clause
   kinds-clause =
-      along-clause (kindAt (g .edges) (g .unknowns) q (pair row (limit pairDrops column)) (pair row (limit imageDrops column))) (neededOf g p) 0 (pairs n)
+      along-clause (kindAt (g .edges) (g .unknowns) (inverse (g .order) p) (pair row (limit pairDrops column)) (pair row (limit imageDrops column))) (neededOf g p) 0 (pairs (g .order))
       (λ k m.
-      let b = pairs-given n k m in
+      let b = pairs-given (g .order) k m in
       rw kept-literals (
-        absent-told kept (pairs n) k m ∙ sym (kind-edge g q row column (between .from-low) (between .rising) pairDrops imageDrops k b (source-is g p high r row column wins k m)),
-        present-told kept (pairs n) k m ∙ sym (kind-gap g q row column (between .from-low) (between .rising) pairDrops imageDrops k b (source-is g p high r row column wins k m)),
+        absent-told kept (pairs (g .order)) k m ∙ sym (kind-edge g (inverse (g .order) p) row column (between .from-low) (between .rising) pairDrops imageDrops k b (source-is g p high r row column wins k m)),
+        present-told kept (pairs (g .order)) k m ∙ sym (kind-gap g (inverse (g .order) p) row column (between .from-low) (between .rising) pairDrops imageDrops k b (source-is g p high r row column wins k m)),
       ))
     where
       kept : Pair → ℕ

@@ -16,10 +16,9 @@ use Rattle.walk.specs.Walk.{won}
 use Rattle.walk.specs.Earlier.{Earlier, copy}
 use Rattle.walk.proofs.Order.{earlier-here, earlier-later, earlier-cases, earlier-none}
 use Rattle.walk.proofs.Put.{one-or-two}
-use Rattle.needed.specs.Settled.{Turned, settled, stays, staying, winsBy, imageGoes, pairGoes}
+use Rattle.needed.specs.Settled.{Turned, WonWalk, settled, stays, staying, winsBy, imageGoes, pairGoes}
 use Rattle.needed.proofs.Settled.{settled-full, not-itself}
 use Rattle.needed.proofs.After.{late-counts, early-counts, first-counts, last-counts, image-trial, pair-trial}
-use Rattle.schemes.specs.Judging.{walkOf}
 use Rattle.plain.specs.Plain.{samePair, image}
 use Rattle.plain.specs.Before.{rowBefore}
 use Rattle.plain.proofs.Plain.{samePair-tells}
@@ -39,7 +38,7 @@ use Rattle.trials.specs.After.{countAfter, turnAfter}
 use Rattle.trials.proofs.CodeAfter.{gap-passes}
 use Rattle.dropped.specs.Limit.{limit}
 use Rattle.dropped.proofs.Limits.{reached-limit, kind-none}
-use Rattle.dropped.proofs.Winning.{turned, winning-is, source-is}
+use Rattle.dropped.proofs.Winning.{won-walk, winning-is, source-is}
 
 -- ---- a walk over a full drawing, by numbers
 
@@ -117,8 +116,12 @@ module _ (g : Graph) (formed : WellFormed g) (p : List ℕ) (high : g .order ≤
   abbrev w : Pair
   w = pair row column
 
+  -- its walk, and the pairs under it
+  c : WonWalk samePair rowBefore (image p) (image (inverse (g .order) p)) (pairs (g .order)) (entryAt g) (pair row column)
+  c = won-walk g p high r row column wins
+
   t : Turned samePair rowBefore (image p) (image (inverse (g .order) p)) (pairs (g .order))
-  t = turned g p high r row column wins
+  t = c .turned
 
   low : 1 ≤ row
   low = winning-is g p high r row column wins .from-low
@@ -142,18 +145,18 @@ module _ (g : Graph) (formed : WellFormed g) (p : List ℕ) (high : g .order ≤
       src = image (inverse (g .order) p) k
 
       here-is : countAfter 0 (entryAt g k) (rowBefore src k) (reached (pair row (limit b column)) src) ≡ x k
-      unfolding countAfter walkOf
+      unfolding countAfter
       here-is = at (holds-or-fails (rowBefore src k))
         where
           at : (rowBefore src k ≡ true) ⊎ (rowBefore src k ≡ false) → pick (rowBefore src k) (pick (both (eqb (entryAt g k) 0) (reached (pair row (limit b column)) src)) 0 1) 0 ≡ x k
           at (inl e) =
               pick-true (rowBefore src k) _ _ e
               ∙ ap (λ (s : Bool). pick (both (eqb (entryAt g k) 0) s) 0 1) (reached-limit b row column n low rising src (source-is g p high r row column wins k m))
-              ∙ sym (late-counts t (entryAt g) w wins a b k m later e)
-          at (inr e) = pick-false (rowBefore src k) _ _ e ∙ sym (early-counts t (entryAt g) w wins a b k m later e)
+              ∙ sym (late-counts c a b k m later e)
+          at (inr e) = pick-false (rowBefore src k) _ _ e ∙ sym (early-counts c a b k m later e)
 
       there-is : image p k ≢ k → countAfter 1 (entryAt g (image p k)) (rowBefore (image p k) k) (reached (pair row (limit a column)) (image p k)) ≡ x (image p k)
-      unfolding countAfter walkOf
+      unfolding countAfter
       there-is moved = at (holds-or-fails (rowBefore (image p k) k))
         where
           at : (rowBefore (image p k) k ≡ true) ⊎ (rowBefore (image p k) k ≡ false)
@@ -161,11 +164,11 @@ module _ (g : Graph) (formed : WellFormed g) (p : List ℕ) (high : g .order ≤
           at (inl e) =
               pick-true (rowBefore (image p k) k) _ _ e
               ∙ ap (λ (s : Bool). pick (both (eqb (entryAt g (image p k)) 1) s) 1 0) (reached-limit a row column n low rising (image p k) (pairs-given n (image p k) (t .image-in k m)))
-              ∙ sym (first-counts t (entryAt g) w wins a b k m later moved e)
-          at (inr e) = pick-false (rowBefore (image p k) k) _ _ e ∙ sym (last-counts t (entryAt g) w wins a b k m later moved e)
+              ∙ sym (first-counts c a b k m later moved e)
+          at (inr e) = pick-false (rowBefore (image p k) k) _ _ e ∙ sym (last-counts c a b k m later moved e)
 
       turn-is : turn k ≡ turnBy (x k) (x (image p k)) (samePair (image p k) k)
-      unfolding turnAfter turnBy walkOf pick
+      unfolding turnAfter turnBy pick
       turn-is = ap (λ (c : ℕ). turnBy (countAfter 0 (entryAt g k) (rowBefore src k) (reached (pair row (limit b column)) src)) (countAfter 1 c (rowBefore (image p k) k) (reached (pair row (limit a column)) (image p k))) (samePair (image p k) k)) (entry-there k)
           ∙ at (one-or-two samePair-tells (image p k) k)
         where
@@ -175,7 +178,7 @@ module _ (g : Graph) (formed : WellFormed g) (p : List ℕ) (high : g .order ≤
           at (inr moved) = ap₂ (λ (i j : ℕ). turnBy i j (samePair (image p k) k)) here-is (there-is moved)
           at (inl e) =
               let back : src ≡ k = ap (image q) (sym e) ∙ t .source-image k m in
-              let gap : x k ≡ 0 = early-counts t (entryAt g) w wins a b k m later (ap (λ (j : Pair). rowBefore j k) back ∙ not-itself t k m) in
+              let gap : x k ≡ 0 = early-counts c a b k m later (ap (λ (j : Pair). rowBefore j k) back ∙ not-itself t k m) in
               let own : samePair (image p k) k ≡ true = ap (λ (j : Pair). samePair j k) e ∙ samePair-tells .itself k in
               sym (gap-passes _ _ _ own (here-is ∙ gap)) ∙ gap-passes (x k) (x (image p k)) _ own gap
 
@@ -230,10 +233,10 @@ module _ (g : Graph) (formed : WellFormed g) (p : List ℕ) (high : g .order ≤
     image-kept e = sym (first-fails _ _ (stays-not (image p w) image-listed-too e))
 
     pub image-tried : kindHere (image p (pair row column)) ≢ 0 → eqb (walksOn false true) 2 ≡ imageGoes samePair rowBefore (image p) (image (inverse (g .order) p)) (pairs (g .order)) (entryAt g) (pair row column)
-    unfolding imageGoes walkOf
+    unfolding imageGoes
     image-tried e =
         let s = stays-some (image p w) image-listed-too e in
-        let trial = image-trial t (entryAt g) w wins xs ys split s in
+        let trial = image-trial c xs ys split s in
         let code = code-earlier false true xs ys split in
         same-test (eqb (walksOn false true) 2) (winsBy samePair rowBefore (image p) (image q) (pairs n) (entryAt g) w false true)
         (λ h. trial .1 (code .0 (eqb-true (walksOn false true) 2 h))) (λ h. eq-eqb (walksOn false true) 2 (code .1 (trial .0 h)))
@@ -250,10 +253,10 @@ module _ (g : Graph) (formed : WellFormed g) (p : List ℕ) (high : g .order ≤
       pair-kept e z = sym (both-after _ _ (ap not (sym is ∙ e)) ∙ first-fails _ _ (stays-not w winning-listed z))
 
       pub pair-tried : dropped ≡ false → kindHere (pair row column) ≢ 0 → eqb (walksOn true false) 2 ≡ pairGoes samePair rowBefore (image p) (image (inverse (g .order) p)) (pairs (g .order)) (entryAt g) (pair row column)
-      unfolding pairGoes walkOf
+      unfolding pairGoes
       pair-tried e z =
           let s = stays-some w winning-listed z in
-          let trial = pair-trial t (entryAt g) w wins xs ys split s in
+          let trial = pair-trial c xs ys split s in
           let code = code-earlier true false xs ys split in
           same-test (eqb (walksOn true false) 2) (winsBy samePair rowBefore (image p) (image q) (pairs n) (entryAt g) w true false)
           (λ h. trial .1 (code .0 (eqb-true (walksOn true false) 2 h))) (λ h. eq-eqb (walksOn true false) 2 (code .1 (trial .0 h)))

@@ -5,11 +5,13 @@ use mathlib.Core.Path.{_≡_}
 use mathlib.Core.Bool.{true}
 use mathlib.Core.List.{List, List·Memᴰ}
 use Rattle.walk.specs.Walk.{won}
-use Rattle.needed.specs.Settled.{Turned}
+use Rattle.needed.specs.Settled.{WonWalk}
+use Rattle.schemes.specs.Judging.{walkOf}
 use Rattle.plain.specs.Plain.{samePair, image}
 use Rattle.plain.specs.Before.{rowBefore}
 use Rattle.graph.specs.declared.Graph.{Graph}
 use Rattle.graph.specs.Graph.{graphOf}
+use Rattle.graph.specs.Counts.{entryAt}
 use Rattle.graph.specs.WellFormed.{wellFormed}
 use Rattle.graph.proofs.Formed.{formed}
 use Rattle.arrangements.specs.Arrangement.{Reordering, Permitted, isPermitted}
@@ -33,14 +35,15 @@ inverse-places n starts p q small a e =
     }
 
 module _ (g : Graph) (p : List ℕ) (high : g .order ≤ 32) (r : Reordering (g .order) p) (row column : ℕ) (wins : walkAll g p ≡ won (pair row column)) where
-  pub turned : Turned samePair rowBefore (image p) (image (inverse (g .order) p)) (pairs (g .order))
-  turned = rows-turned (g .order) p high r
+  pub won-walk : WonWalk samePair rowBefore (image p) (image (inverse (g .order) p)) (pairs (g .order)) (entryAt g) (pair row column)
+  unfolding walkOf
+  won-walk = record { turned = rows-turned (g .order) p high r; wins = wins }
 
   pub winning-is : Between 1 (g .order) (pair row column)
   winning-is = winning-between g p (pair row column) wins
 
   pub source-is : (k : Pair) → List·Memᴰ k (pairs (g .order)) → Between 1 (g .order) (image (inverse (g .order) p) k)
-  source-is k m = pairs-given (g .order) (image (inverse (g .order) p) k) (turned .source-in k m)
+  source-is k m = pairs-given (g .order) (image (inverse (g .order) p) k) (won-walk .turned .source-in k m)
 
 -- ---- as the code meets it
 

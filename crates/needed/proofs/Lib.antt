@@ -5,5 +5,6 @@ pub mod Staying
 pub mod Splits
 pub mod Winning
 pub mod Without
+pub mod Left
 pub mod Pass
 pub mod After

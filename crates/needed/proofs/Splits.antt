@@ -48,24 +48,22 @@ literals-split {P} x (j ∷ ns) ls l rs e = at (eqb (x j) 1) (eqb (x j) 0) ls re
     here : (y : Literal P) → pairIn y ≡ j → y ≡ l → rest ≡ rs → SplitAt x (j ∷ ns) [] l rs
     here y p q f = record { first = []; last = ns; split = ap (λ (i : P). i ∷ ns) (sym p ∙ ap pairIn q); of-first = refl; of-last = sym f }
 
+    -- the literal of j stands first
+    first-is : (y : Literal P) → pairIn y ≡ j → ((ms : List (Literal P)) → SplitAt x ns ms l rs → SplitAt x (j ∷ ns) (y ∷ ms) l rs) → (ms : List (Literal P)) → y ∷ rest ≡ ms ++ l ∷ rs
+        → ((ms : List (Literal P)) → rest ≡ ms ++ l ∷ rs → SplitAt x ns ms l rs) → SplitAt x (j ∷ ns) ms l rs
+    first-is y p longer [] e go =
+        let same : y ≡ l = cc in
+        let rest-is : rest ≡ rs = cc in
+        here y p same rest-is
+    first-is y p longer (z ∷ ms) e go =
+        let same : y ≡ z = cc in
+        let rest-is : rest ≡ ms ++ l ∷ rs = cc in
+        rw (← same) (longer ms (go ms rest-is))
+
     at : (o z : Bool) (ms : List (Literal P)) → eqb (x j) 1 ≡ o → eqb (x j) 0 ≡ z → pick o (absent j ∷ rest) (pick z (present j ∷ rest) rest) ≡ ms ++ l ∷ rs
         → ((ms : List (Literal P)) → rest ≡ ms ++ l ∷ rs → SplitAt x ns ms l rs) → SplitAt x (j ∷ ns) ms l rs
-    at true z [] a b e go =
-        let first-is : absent j ≡ l = cc in
-        let rest-is : rest ≡ rs = cc in
-        here (absent j) refl first-is rest-is
-    at true z (y ∷ ms) a b e go =
-        let same : absent j ≡ y = cc in
-        let rest-is : rest ≡ ms ++ l ∷ rs = cc in
-        rw (← same) (more true z a b (go ms rest-is))
-    at false true [] a b e go =
-        let first-is : present j ≡ l = cc in
-        let rest-is : rest ≡ rs = cc in
-        here (present j) refl first-is rest-is
-    at false true (y ∷ ms) a b e go =
-        let same : present j ≡ y = cc in
-        let rest-is : rest ≡ ms ++ l ∷ rs = cc in
-        rw (← same) (more false true a b (go ms rest-is))
+    at true z ms a b e go = first-is (absent j) refl (λ ms s. more true z a b s) ms e go
+    at false true ms a b e go = first-is (present j) refl (λ ms s. more false true a b s) ms e go
     at false false ms a b e go = more false false a b (go ms e)
 
 -- the literals of x whose pairs pass a test are those of the drawing that has the entries of x there, and else none

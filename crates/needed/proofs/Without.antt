@@ -9,49 +9,34 @@ use mathlib.Core.List.{List, [], map, List·Memᴰ, Memᴰ·map, Memᴰ·of-map,
 use Rattle.laws.specs.Test.{pick}
 use Rattle.laws.specs.TestLaws.{fails, pick-true, pick-false}
 use Rattle.laws.specs.Each.{Each}
-use Rattle.walk.specs.Walk.{won, walk}
 use Rattle.walk.specs.Clause.{Literal, pairIn, FalseIn}
 use Rattle.walk.specs.Meeting.{met, listed, only}
 use Rattle.walk.proofs.Only.{listed-tells}
 use Rattle.walk.proofs.Put.{one-or-two}
 use Rattle.needed.specs.Kept.{those}
 use Rattle.needed.specs.Enough.{isWon, enough, literals}
-use Rattle.needed.specs.Settled.{Turned, drivenTo, settled, stays, staying, winsBy}
+use Rattle.needed.specs.Settled.{Turned, WonWalk, drivenTo, settled, stays, staying, winsBy}
 use Rattle.needed.proofs.Kept.{those-are}
 use Rattle.needed.proofs.Enough.{literal-for, literals-exactly, enough-tells, enough-more}
-use Rattle.needed.proofs.Settled.{settled-unknown, one-way, walk-alike, WinsAt, wins-at, loses-at}
-use Rattle.needed.proofs.Staying.{before-all, not-after, met-by}
+use Rattle.needed.proofs.Settled.{settled-unknown, one-way, walk-alike, loses-at}
+use Rattle.needed.proofs.Staying.{at-w, mw, before-all, not-after, met-by}
 use Rattle.needed.proofs.Winning.{settled-where, pick-alike, image-met}
 
-module _ {P : Type 0} {same before : P → P → Bool} {img src : P → P} {ks : List P} (t : Turned same before img src ks) (v : P → ℕ) (w : P)
-    (wins : walk same img ks v ≡ won w) where
-  abbrev x : P → ℕ
-  x = settled before src v
-
-  abbrev to : P → ℕ
-  to = drivenTo before src
-
-  -- whether the entry at k stays, with one or both of those at w left out
-  abbrev keeps : Bool → Bool → P → Bool
-  keeps = stays before src v w
-
-  at-w : WinsAt t v w
-  at-w = wins-at t v w wins
-
-  mw : List·Memᴰ w ks
-  mw = at-w .listed
+module _ {P : Type 0} {same before : P → P → Bool} {img src : P → P} {ks : List P} {v : P → ℕ} {w : P} (won-w : WonWalk same before img src ks v w) where
+  abbrev t : Turned same before img src ks
+  t = won-w .turned
 
   module _ (lits : List (Literal P)) (a b : Bool) where
     -- literals of the entries that stay, and of any where an unknown one would be driven to the same, are enough where these win
-    pub enough-by : Each (λ k. x k ≢ to k → listed same k (map pairIn lits) ≡ keeps a b k) ks → enough same img ks v lits ≡ winsBy same before img src ks v w a b
+    pub enough-by : Each (λ k. settled before src v k ≢ drivenTo before src k → listed same k (map pairIn lits) ≡ stays before src v w a b k) ks → enough same img ks v lits ≡ winsBy same before img src ks v w a b
     unfolding enough winsBy staying only
     enough-by h =
         ap isWon
         (walk-alike t (only same (map pairIn lits) v) (staying before src v w a b)
         (λ k m.
         settled-where before src v k (only same (map pairIn lits) v) (listed same k (map pairIn lits)) refl
-        ∙ pick-alike before src v k (listed same k (map pairIn lits)) (keeps a b k) (h k m)
-        ∙ sym (settled-where before src v k (staying before src v w a b) (keeps a b k) refl)))
+        ∙ pick-alike before src v k (listed same k (map pairIn lits)) (stays before src v w a b k) (h k m)
+        ∙ sym (settled-where before src v k (staying before src v w a b) (stays before src v w a b k) refl)))
 
   -- a pair is listed where it has one of the literals
   pub has-pair : (lits : List (Literal P)) (k : P) → (listed same k (map pairIn lits) ≡ true) ↔ ((l : Literal P) × List·Memᴰ l lits × (pairIn l ≡ k))
@@ -87,24 +72,24 @@ module _ {P : Type 0} {same before : P → P → Bool} {img src : P → P} {ks :
       pub in-others : (l : Literal P) → List·Memᴰ l (literals same img ks v numbering) → gone (pairIn l) ≡ false → List·Memᴰ l others
       in-others l m e = those-are (λ (l : Literal P). not (gone (pairIn l))) lits l .1 (m, ap not e)
 
-      there-settled : (k : P) → settled before src y k ≡ pick (listed same k (map pairIn others)) (x k) (to k)
+      there-settled : (k : P) → settled before src y k ≡ pick (listed same k (map pairIn others)) (settled before src v k) (drivenTo before src k)
       unfolding only
       there-settled k = settled-where before src v k y (listed same k (map pairIn others)) refl
 
-      pub others-here : (k : P) → List·Memᴰ k ks → List·Memᴰ k (met same img ks v) → gone k ≡ false → settled before src y k ≡ x k
+      pub others-here : (k : P) → List·Memᴰ k ks → List·Memᴰ k (met same img ks v) → gone k ≡ false → settled before src y k ≡ settled before src v k
       others-here k m i e = at (decLe (v k) 1)
         where
-          at : Dec (v k ≤ 1) → settled before src y k ≡ x k
+          at : Dec (v k ≤ 1) → settled before src y k ≡ settled before src v k
           at (yes h) =
               let l = literal-of k m i h in
-              there-settled k ∙ pick-true (listed same k (map pairIn others)) (x k) (to k) (has-pair others k .1 (l .0, in-others (l .0) (l .1) (rw (l .2) e), l .2))
+              there-settled k ∙ pick-true (listed same k (map pairIn others)) (settled before src v k) (drivenTo before src k) (has-pair others k .1 (l .0, in-others (l .0) (l .1) (rw (l .2) e), l .2))
           at (no h) =
               there-settled k ∙ pick-alike before src v k (listed same k (map pairIn others)) true (λ n. absurd (n (settled-unknown before src v k (omega arith))))
               ∙ (unfold pick in refl)
 
-      pub others-gone : (k : P) → gone k ≡ true → settled before src y k ≡ to k
+      pub others-gone : (k : P) → gone k ≡ true → settled before src y k ≡ drivenTo before src k
       others-gone k e =
-          there-settled k ∙ pick-false (listed same k (map pairIn others)) (x k) (to k)
+          there-settled k ∙ pick-false (listed same k (map pairIn others)) (settled before src v k) (drivenTo before src k)
           (fails (listed same k (map pairIn others)) (λ h.
           let l = has-pair others k .0 h in
           let kept = those-are (λ (l : Literal P). not (gone (pairIn l))) lits (l .0) .0 (l .1) .1 in
@@ -127,16 +112,16 @@ module _ {P : Type 0} {same before : P → P → Bool} {img src : P → P} {ks :
             where
               at : (f ≡ w) ⊎ (f ≢ w) → before k w ≡ true
               at (inl e) = rw (← e) b
-              at (inr n) = before-all t k f w i m mw b (one-way t f w m mw n ∙ ap not reach)
+              at (inr n) = before-all t k f w i m (mw won-w) b (one-way t f w m (mw won-w) n ∙ ap not reach)
 
           agrees : (k : P) → List·Memᴰ k ks → before k f ≡ true → settled before src y (img k) ≡ settled before src y k
           agrees k i b = at (one-or-two (t .tells) (img k) k)
             where
               late : before w k ≡ false
-              late = not-after t k w i mw (earlier k i b)
+              late = not-after t k w i (mw won-w) (earlier k i b)
 
               at : (img k ≡ k) ⊎ (img k ≢ k) → settled before src y (img k) ≡ settled before src y k
               at (inl e) = ap (settled before src y) e
               at (inr n) =
                   let c = clear k i b n in
-                  others-here (img k) (t .image-in k i) (image-met t v w wins k i n late) (c .1) ∙ at-w .agrees k i (earlier k i b) ∙ sym (others-here k i (met-by t v w wins k i .1 (n, inl late)) (c .0))
+                  others-here (img k) (t .image-in k i) (image-met won-w k i n late) (c .1) ∙ at-w won-w .agrees k i (earlier k i b) ∙ sym (others-here k i (met-by won-w k i .1 (n, inl late)) (c .0))

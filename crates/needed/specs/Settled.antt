@@ -2,12 +2,12 @@
 use Prim.Native.Nat.{ℕ}
 use mathlib.Core.Path.{_≡_}
 use mathlib.Core.Bool.{Bool, true, false, not}
-use mathlib.Core.List.{List, List·Memᴰ}
+use mathlib.Core.List.{List, _∷_, _++_, List·Memᴰ}
 use lib.Dec.{eqb, ltb}
 use Rattle.laws.specs.Each.{Each}
 use Rattle.laws.specs.ListLaws.{NoRepeats}
 use Rattle.laws.specs.Test.{both, either, pick}
-use Rattle.walk.specs.Walk.{Tells, walk}
+use Rattle.walk.specs.Walk.{Tells, won, walk}
 use Rattle.walk.specs.Free.{Precedes}
 use Rattle.needed.specs.Enough.{isWon}
 
@@ -20,6 +20,18 @@ pub record Turned {P : Type 0} (same before : P → P → Bool) (img src : P →
   pub source-in : Each (λ k. List·Memᴰ (src k) ks) ks
   pub image-source : Each (λ k. img (src k) ≡ k) ks
   pub source-image : Each (λ k. src (img k) ≡ k) ks
+
+-- a walk along them that is won at w
+pub record WonWalk {P : Type 0} (same before : P → P → Bool) (img src : P → P) (ks : List P) (v : P → ℕ) (w : P) : Type 0 where
+  pub turned : Turned same before img src ks
+  pub wins : walk same img ks v ≡ won w
+
+-- a numbering of them, each once, in which the image of w does not come before w where it is compared after it
+pub record NumberedBy {P : Type 0} (before : P → P → Bool) (img : P → P) (ks : List P) (w : P) (numbering : List P) : Type 0 where
+  pub all : Each (λ k. List·Memᴰ k numbering) ks
+  pub inside : Each (λ k. List·Memᴰ k ks) numbering
+  pub once : NoRepeats numbering
+  pub rising : before w (img w) ≡ true → (us ys : List P) → numbering ≡ us ++ img w ∷ ys → ¬ List·Memᴰ w ys
 
 -- k comes before w; or it is w, unless that is left out
 unfoldable pub upTo : {P : Type 0} → (P → P → Bool) → (without : Bool) → P → P → Bool
