@@ -257,8 +257,8 @@ struct Search {
     {
         int32_t clause[CAFRUZEK_MOST_LITERALS];
         uint8_t arrangement[32];
-        uint64_t answer = cafruzek_judge_rows(order, drawing.edges, drawing.unknowns, wish.starts, budget, clause,
-                                              CAFRUZEK_MOST_LITERALS, arrangement);
+        uint64_t answer = cafruzek_judge_rows(order, drawing.edges, drawing.unknowns, wish.starts, CAFRUZEK_BY_ROWS,
+                                              budget, clause, CAFRUZEK_MOST_LITERALS, arrangement);
         if (cafruzek_refusal(answer) != 0)
             stop(1, "the checker refused the drawing by " + std::to_string(cafruzek_refusal(answer)));
         asked++;

@@ -47,7 +47,7 @@ static void propagate(void)
     uint8_t arrangement[32];
 
     draw(edges, unknowns);
-    uint64_t answer = cafruzek_judge_rows(ORDER, edges, unknowns, 1, 10000,
+    uint64_t answer = cafruzek_judge_rows(ORDER, edges, unknowns, 1, CAFRUZEK_BY_ROWS, 10000,
                                           clause, CAFRUZEK_MOST_LITERALS, arrangement);
     switch (cafruzek_code(answer)) {
     case CAFRUZEK_NONE:

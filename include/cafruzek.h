@@ -10,8 +10,9 @@
  * own buffers.
  *
  * Vertices and places are numbered from 1. A pair is two vertices i < j. Pairs are
- * numbered from 1 in row order, (1,2), (1,3), .., (1,n), (2,3), and so on: the
- * pair (i,j) has number (i-1)(2n-i)/2 + (j-i). The rules are in docs/RULES.md.
+ * numbered from 1 in row order, (1,2), (1,3), .., (1,n), (2,3), and so on, in every
+ * mode: the pair (i,j) has number (i-1)(2n-i)/2 + (j-i). The rules are in
+ * docs/RULES.md.
  *
  * What every pointer must be: not null, even where its length is 0; aligned for its
  * type; to as many elements as the length beside it or the array's bound says. What
@@ -35,8 +36,21 @@ enum {
     CAFRUZEK_MOST_BYTES = 129
 };
 
+/* The modes: the order in which the pairs of two drawings are compared. Any other
+ * mode, 0 too, is refused by 16. */
+enum {
+    /* By rows: (1,2), (1,3), .., (1,n), (2,3), and so on. */
+    CAFRUZEK_BY_ROWS = 1,
+    /* By columns: (1,2), (1,3), (2,3), (1,4), and so on. Of a graph in one block
+     * that is smallest so, the first m vertices are smallest too. */
+    CAFRUZEK_BY_COLUMNS = 2
+};
+
 /* ---- Judging ----
  *
+ * mode          CAFRUZEK_BY_ROWS or CAFRUZEK_BY_COLUMNS. A search uses one of them
+ *               all along: the smallest copy of every network survives the clauses
+ *               of one mode, and clauses of both together may cut off all copies.
  * budget        how many steps may be taken, 0 to 4,294,967,295. Where the steps
  *               needed are more, the answer is "cut"; a budget of 0 is always cut.
  * literals      a buffer for the clause, of literals_len numbers. It must have at
@@ -54,15 +68,15 @@ enum {
 
 /* Judges the graph of the record at the start of some bytes. Bytes after the record
  * are ignored. Refusals, in this order: 1, 2, 1, 3, 4 of the record, with their
- * places, and 5.
+ * places, 16 and 5.
  *
  * record        the bytes, record_len of them. They are only read. */
 uint64_t cafruzek_judge_record(const uint8_t *record, size_t record_len,
-                               uint32_t budget,
+                               uint32_t mode, uint32_t budget,
                                int32_t *literals, size_t literals_len,
                                uint8_t arrangement[32]);
 
-/* Judges the graph of these rows. Refusals, in this order: 8, 5.
+/* Judges the graph of these rows. Refusals, in this order: 16, 8, 5.
  *
  * order         n, 1 to 32.
  * edges         32 rows, that of vertex i at index i - 1; bit j - 1 is set where
@@ -76,7 +90,7 @@ uint64_t cafruzek_judge_record(const uint8_t *record, size_t record_len,
  * refused by 8. */
 uint64_t cafruzek_judge_rows(uint32_t order,
                              const uint32_t edges[32], const uint32_t unknowns[32],
-                             uint32_t starts, uint32_t budget,
+                             uint32_t starts, uint32_t mode, uint32_t budget,
                              int32_t *literals, size_t literals_len,
                              uint8_t arrangement[32]);
 

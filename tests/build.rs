@@ -15,7 +15,7 @@ fn main() {
     let out = PathBuf::from(env::var("OUT_DIR").unwrap());
 
     let archive = out.join("libbaseline.a");
-    for name in ["clause", "graph", "judge", "record", "search"] {
+    for name in ["clause", "graph", "judge", "record", "search", "search_columns", "search_rows"] {
         let object = out.join(format!("{name}.o"));
         run(Command::new("cc")
             .args(["-std=c11", "-O3", "-Wall", "-Wextra", "-Werror", "-fPIC", "-c"])

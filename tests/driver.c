@@ -3,10 +3,10 @@
  * 64 bits, and all bytes of its areas as they are then.
  *
  * Calls come in batches, a number of calls and then these; all other numbers too are
- * of 32 bits. A call is the function, the order, the starts and the budget, of which
- * a function leaves aside what it doesn't take; then an area for each thing that it
- * lends, in the header's order. An area is how many bytes it has, at which of them
- * the lent part starts and how many elements are lent; then its bytes. */
+ * of 32 bits. A call is the function, the order, the starts, the mode and the budget,
+ * of which a function leaves aside what it doesn't take; then an area for each thing
+ * that it lends, in the header's order. An area is how many bytes it has, at which of
+ * them the lent part starts and how many elements are lent; then its bytes. */
 #include <stdio.h>
 #include <stdlib.h>
 
@@ -59,13 +59,13 @@ static void *lent(int index)
     return (uint8_t *)areas[index].memory + areas[index].start;
 }
 
-static uint64_t answer(uint32_t function, uint32_t order, uint32_t starts, uint32_t budget)
+static uint64_t answer(uint32_t function, uint32_t order, uint32_t starts, uint32_t mode, uint32_t budget)
 {
     switch (function) {
     case JUDGE_RECORD:
-        return cafruzek_judge_record(lent(0), areas[0].length, budget, lent(1), areas[1].length, lent(2));
+        return cafruzek_judge_record(lent(0), areas[0].length, mode, budget, lent(1), areas[1].length, lent(2));
     case JUDGE_ROWS:
-        return cafruzek_judge_rows(order, lent(0), lent(1), starts, budget, lent(2), areas[2].length, lent(3));
+        return cafruzek_judge_rows(order, lent(0), lent(1), starts, mode, budget, lent(2), areas[2].length, lent(3));
     case RECORD_SIZE:
         return cafruzek_record_size(lent(0), areas[0].length);
     default:
@@ -75,12 +75,12 @@ static uint64_t answer(uint32_t function, uint32_t order, uint32_t starts, uint3
 
 static void make_call(void)
 {
-    uint32_t call[4];
+    uint32_t call[5];
     get(call, sizeof call);
     require(call[0] < FUNCTIONS, "there is no such function");
     for (int i = 0; i < areas_of[call[0]]; i++)
         get_area(&areas[i]);
-    uint64_t number = answer(call[0], call[1], call[2], call[3]);
+    uint64_t number = answer(call[0], call[1], call[2], call[3], call[4]);
     put(&number, sizeof number);
     for (int i = 0; i < areas_of[call[0]]; i++)
         put(areas[i].memory, areas[i].size);

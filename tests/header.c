@@ -17,12 +17,17 @@
 static int32_t literals[CAFRUZEK_MOST_LITERALS];
 static uint8_t arrangement[CAFRUZEK_MOST_VERTICES];
 
-/* Judges these bytes, with buffers that hold what no answer writes. */
-static uint64_t judge(const uint8_t *record, size_t length, uint32_t budget)
+/* Judges these bytes in a mode, with buffers that hold what no answer writes. */
+static uint64_t judge_in(uint32_t mode, const uint8_t *record, size_t length, uint32_t budget)
 {
     memset(literals, 0x55, sizeof literals);
     memset(arrangement, 0x55, sizeof arrangement);
-    return cafruzek_judge_record(record, length, budget, literals, CAFRUZEK_MOST_LITERALS, arrangement);
+    return cafruzek_judge_record(record, length, mode, budget, literals, CAFRUZEK_MOST_LITERALS, arrangement);
+}
+
+static uint64_t judge(const uint8_t *record, size_t length, uint32_t budget)
+{
+    return judge_in(CAFRUZEK_BY_ROWS, record, length, budget);
 }
 
 static int unchanged(void)
@@ -60,6 +65,17 @@ static void judging(void)
     CHECK(cafruzek_row(answer) == 2 && cafruzek_column(answer) == 3 && cafruzek_literals(answer) == 3);
     CHECK(literals[0] == 3 && literals[1] == -4 && literals[2] == 5 && literals[3] == 0x55555555);
     CHECK(arrangement[0] == 1 && arrangement[1] == 2 && arrangement[2] == 4 && arrangement[3] == 3);
+
+    /* By columns the same, found a step sooner. */
+    answer = judge_in(CAFRUZEK_BY_COLUMNS, half, sizeof half, UINT32_MAX);
+    CHECK(cafruzek_code(answer) == CAFRUZEK_SMALLER && cafruzek_steps(answer) == 5);
+    CHECK(cafruzek_row(answer) == 2 && cafruzek_column(answer) == 3 && cafruzek_literals(answer) == 3);
+    CHECK(literals[0] == 3 && literals[1] == -4 && literals[2] == 5 && literals[3] == 0x55555555);
+
+    answer = judge_in(0, one_edge, sizeof one_edge, UINT32_MAX);
+    CHECK(cafruzek_refusal(answer) == 16 && cafruzek_place(answer) == 0 && unchanged());
+    answer = judge_in(3, one_edge, 1, UINT32_MAX);
+    CHECK(cafruzek_refusal(answer) == 1 && cafruzek_place(answer) == 1 && unchanged());
 }
 
 /* Checks that reading refuses these bytes alike in both functions. */
@@ -90,12 +106,14 @@ static void records(void)
     uint64_t answer = judge(out, 4, 100);
     memset(literals, 0x55, sizeof literals);
     memset(arrangement, 0x55, sizeof arrangement);
-    CHECK(cafruzek_judge_rows(3, edges, unknowns, 1, 100, literals, 3, arrangement) == answer);
+    CHECK(cafruzek_judge_rows(3, edges, unknowns, 1, CAFRUZEK_BY_ROWS, 100, literals, 3, arrangement) == answer);
     CHECK(literals[0] == -1 && literals[1] == 2 && literals[2] == 0x55555555 && arrangement[1] == 3);
     memset(literals, 0x55, sizeof literals);
     memset(arrangement, 0x55, sizeof arrangement);
-    CHECK(cafruzek_refusal(cafruzek_judge_rows(3, edges, unknowns, 1, 100, literals, 2, arrangement)) == 5);
-    CHECK(cafruzek_refusal(cafruzek_judge_rows(3, edges, unknowns, 2, 100, literals, 3, arrangement)) == 8);
+    const uint32_t mode = CAFRUZEK_BY_COLUMNS;
+    CHECK(cafruzek_refusal(cafruzek_judge_rows(3, edges, unknowns, 1, mode, 100, literals, 2, arrangement)) == 5);
+    CHECK(cafruzek_refusal(cafruzek_judge_rows(3, edges, unknowns, 2, mode, 100, literals, 2, arrangement)) == 8);
+    CHECK(cafruzek_refusal(cafruzek_judge_rows(3, edges, unknowns, 2, 3, 100, literals, 2, arrangement)) == 16);
     CHECK(unchanged());
 }
 
@@ -113,12 +131,12 @@ static void apart(uint64_t code, uint64_t count, uint64_t column, uint64_t row, 
 /* Every code, with the least and the most of each field, whatever the others are. */
 static void fields(void)
 {
-    static const uint64_t codes[15] = {0, 1, 2, 129, 130, 131, 132, 133, 134, 135, 136, 137, 138, 139, 140};
+    static const uint64_t codes[16] = {0, 1, 2, 129, 130, 131, 132, 133, 134, 135, 136, 137, 138, 139, 140, 144};
     static const uint64_t counts[6] = {0, 1, 255, 256, 496, 511};
     static const uint64_t vertices[6] = {0, 1, 31, 32, 33, 63};
     static const uint64_t lows[6] = {0, 1, 129, 0x7fffffff, 0x80000000, 0xffffffff};
 
-    for (int i = 0; i < 15 * 6; i++)
+    for (int i = 0; i < 16 * 6; i++)
         for (int j = 0; j < 6 * 6; j++)
             for (int k = 0; k < 6; k++)
                 apart(codes[i / 6], counts[i % 6], vertices[j / 6], vertices[j % 6], lows[k]);

@@ -14,7 +14,7 @@ enum { PAINT = 0xa5 };
 static uint8_t stack[65536];
 
 /* What the calls are lent, and the answer of the last one. */
-static uint32_t order, starts, budget;
+static uint32_t order, starts, mode, budget;
 static uint32_t edges[32], unknowns[32];
 static int32_t literals[CAFRUZEK_MOST_LITERALS];
 static uint8_t arrangement[32], record[CAFRUZEK_MOST_BYTES];
@@ -23,12 +23,12 @@ static uint64_t answer;
 
 static void judge_record(void)
 {
-    answer = cafruzek_judge_record(record, record_len, budget, literals, literals_len, arrangement);
+    answer = cafruzek_judge_record(record, record_len, mode, budget, literals, literals_len, arrangement);
 }
 
 static void judge_rows(void)
 {
-    answer = cafruzek_judge_rows(order, edges, unknowns, starts, budget, literals, literals_len, arrangement);
+    answer = cafruzek_judge_rows(order, edges, unknowns, starts, mode, budget, literals, literals_len, arrangement);
 }
 
 static void record_size(void)
@@ -53,8 +53,8 @@ static struct function {
     size_t touched, literals;
     int seen[4];
 } functions[] = {
-    {"cafruzek_judge_record", judge_record, 1650, 1, 0, 0, {0}},
-    {"cafruzek_judge_rows", judge_rows, 1350, 1, 0, 0, {0}},
+    {"cafruzek_judge_record", judge_record, 1850, 1, 0, 0, {0}},
+    {"cafruzek_judge_rows", judge_rows, 1550, 1, 0, 0, {0}},
     {"cafruzek_record_size", record_size, 300, 0, 0, 0, {0}},
     {"cafruzek_write_record", write_record, 950, 0, 0, 0, {0}},
 };
@@ -191,11 +191,12 @@ static void records(void)
     make(JUDGE_RECORD);
 }
 
-/* All calls with the graph that is drawn. */
-static void calls(void)
+/* All calls with the graph that is drawn, in this mode. */
+static void calls(uint32_t in_mode)
 {
     static const uint32_t budgets[] = {0, 1, 100000};
     uint32_t pairs = order * (order - 1) / 2;
+    mode = in_mode;
     for (size_t b = 0; b < sizeof budgets / sizeof *budgets; b++) {
         budget = budgets[b];
         literals_len = pairs;
@@ -214,7 +215,8 @@ int main(void)
         for (size_t g = 0; g < sizeof draw / sizeof *draw; g++) {
             starts = 1;
             draw[g]();
-            calls();
+            calls(CAFRUZEK_BY_ROWS);
+            calls(CAFRUZEK_BY_COLUMNS);
         }
     for (int f = 0; f < FUNCTIONS; f++)
         printf("%-22s %5zu bytes of the stack, at most %zu\n", functions[f].name, functions[f].touched,

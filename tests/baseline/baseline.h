@@ -8,11 +8,12 @@
 #include <stddef.h>
 #include <stdint.h>
 
-uint64_t baseline_judge_record(const uint8_t *record, size_t record_len, uint32_t budget,
-                               int32_t *literals, size_t literals_len, uint8_t arrangement[32]);
+uint64_t baseline_judge_record(const uint8_t *record, size_t record_len, uint32_t mode,
+                               uint32_t budget, int32_t *literals, size_t literals_len,
+                               uint8_t arrangement[32]);
 
 uint64_t baseline_judge_rows(uint32_t order, const uint32_t edges[32], const uint32_t unknowns[32],
-                             uint32_t starts, uint32_t budget,
+                             uint32_t starts, uint32_t mode, uint32_t budget,
                              int32_t *literals, size_t literals_len, uint8_t arrangement[32]);
 
 uint64_t baseline_record_size(const uint8_t *record, size_t record_len);
@@ -22,6 +23,29 @@ uint64_t baseline_write_record(uint32_t order, const uint32_t edges[32],
                                uint8_t *out, size_t out_len);
 
 /* ---- Between the files ---- */
+
+#define ALWAYS_INLINE static inline __attribute__((always_inline))
+/* Aligned, so that the time of a loop doesn't depend on what stands before it. */
+#define NEVER_INLINE static __attribute__((noinline, aligned(64)))
+
+ALWAYS_INLINE uint32_t bit(uint32_t v)
+{
+    return UINT32_C(1) << v;
+}
+
+/* The mask of the vertices below a bound of at most 32. */
+ALWAYS_INLINE uint32_t below(uint32_t bound)
+{
+    return (uint32_t)((UINT64_C(1) << bound) - 1);
+}
+
+ALWAYS_INLINE bool same_pair(uint32_t x, uint32_t y, uint32_t i, uint32_t j)
+{
+    return (x == i && y == j) || (x == j && y == i);
+}
+
+/* The modes: pairs are compared by rows, or by columns. */
+enum { BY_ROWS = 1, BY_COLUMNS = 2 };
 
 struct graph {
     uint32_t order, starts;
@@ -49,13 +73,21 @@ struct found {
 
 /* Searches a graph. */
 void baseline_search(uint32_t order, const uint32_t edges[32], const uint32_t unknowns[32],
-                     uint32_t starts, uint32_t budget, struct found *found);
+                     uint32_t starts, uint32_t mode, uint32_t budget, struct found *found);
+
+/* The search of each mode, for graphs without unknowns and for others: with the rows of
+ * non-edges, and the block of each vertex. */
+typedef void baseline_searching(uint32_t order, const uint32_t *edges, const uint32_t *unknowns,
+                                const uint32_t *non_edges, const uint32_t *blocks,
+                                uint32_t budget, struct found *found);
+baseline_searching baseline_drawn_by_rows, baseline_half_drawn_by_rows;
+baseline_searching baseline_drawn_by_columns, baseline_half_drawn_by_columns;
 
 /* Writes the clause of what was found, by rising pair number, and tells how many literals
  * it has. */
 size_t baseline_write_clause(uint32_t order, const uint32_t edges[32],
-                             const uint32_t unknowns[32], const struct found *found,
-                             int32_t *literals);
+                             const uint32_t unknowns[32], uint32_t mode,
+                             const struct found *found, int32_t *literals);
 
 /* The answer that refuses. */
 static inline uint64_t refusal(uint64_t number, size_t place)

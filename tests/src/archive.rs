@@ -6,6 +6,7 @@ unsafe extern "C" {
     fn cafruzek_judge_record(
         record: *const u8,
         record_len: usize,
+        mode: u32,
         budget: u32,
         literals: *mut i32,
         literals_len: usize,
@@ -17,6 +18,7 @@ unsafe extern "C" {
         edges: *const u32,
         unknowns: *const u32,
         starts: u32,
+        mode: u32,
         budget: u32,
         literals: *mut i32,
         literals_len: usize,

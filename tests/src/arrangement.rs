@@ -36,14 +36,16 @@ pub fn relabel(graph: &Graph, p: &Arrangement) -> Result<Graph, Refusal> {
     if !graph.well_formed() {
         return Err(Refusal::plain(8));
     }
-    if !permitted(graph, p) {
-        return Err(Refusal::plain(11));
-    }
+    if permitted(graph, p) { Ok(relabelled(graph, p)) } else { Err(Refusal::plain(11)) }
+}
+
+/// The same for a graph that is well formed and a p that is permitted.
+pub fn relabelled(graph: &Graph, p: &Arrangement) -> Graph {
     let mut relabelled = Graph { starts: graph.starts, ..Graph::empty(graph.order) };
     for (i, j) in pairs(graph.order) {
         relabelled.put(i, j, graph.at(vertex_at(p, i), vertex_at(p, j)));
     }
-    Ok(relabelled)
+    relabelled
 }
 
 /// Refusal 2 for the order, then 11 for what isn't a reordering.

@@ -7,6 +7,7 @@ unsafe extern "C" {
     fn baseline_judge_record(
         record: *const u8,
         record_len: usize,
+        mode: u32,
         budget: u32,
         literals: *mut i32,
         literals_len: usize,
@@ -18,6 +19,7 @@ unsafe extern "C" {
         edges: *const u32,
         unknowns: *const u32,
         starts: u32,
+        mode: u32,
         budget: u32,
         literals: *mut i32,
         literals_len: usize,

@@ -79,6 +79,7 @@ pub struct Call {
     pub function: Function,
     pub order: u32,
     pub starts: u32,
+    pub mode: u32,
     pub budget: u32,
     pub areas: Vec<Area>,
 }
@@ -91,18 +92,35 @@ pub const BATCH: usize = 4096;
 pub type Make = fn(&mut [Call]) -> Vec<u64>;
 
 impl Call {
+    /// A call with these areas whose numbers are all 0.
+    fn lending(function: Function, areas: Vec<Area>) -> Call {
+        Call { function, order: 0, starts: 0, mode: 0, budget: 0, areas }
+    }
+
     /// Judges the record at the start of the bytes, with room for so many literals.
-    pub fn judge_record(random: &mut Random, bytes: &[u8], budget: u32, literals: usize) -> Call {
+    pub fn judge_record(
+        random: &mut Random,
+        bytes: &[u8],
+        mode: u32,
+        budget: u32,
+        literals: usize,
+    ) -> Call {
         let areas = vec![
             Area::bytes(random, bytes),
             Area::new(random, literals, 4),
             Area::new(random, 32, 1),
         ];
-        Call { function: Function::JudgeRecord, order: 0, starts: 0, budget, areas }
+        Call { mode, budget, ..Call::lending(Function::JudgeRecord, areas) }
     }
 
     /// Judges a graph value, with room for so many literals.
-    pub fn judge_rows(random: &mut Random, graph: &Graph, budget: u32, literals: usize) -> Call {
+    pub fn judge_rows(
+        random: &mut Random,
+        graph: &Graph,
+        mode: u32,
+        budget: u32,
+        literals: usize,
+    ) -> Call {
         let areas = vec![
             Area::numbers(random, &graph.edges),
             Area::numbers(random, &graph.unknowns),
@@ -110,13 +128,12 @@ impl Call {
             Area::new(random, 32, 1),
         ];
         let Graph { order, starts, .. } = *graph;
-        Call { function: Function::JudgeRows, order, starts, budget, areas }
+        Call { order, starts, mode, budget, ..Call::lending(Function::JudgeRows, areas) }
     }
 
     /// Tells the size of the record at the start of the bytes.
     pub fn record_size(random: &mut Random, bytes: &[u8]) -> Call {
-        let areas = vec![Area::bytes(random, bytes)];
-        Call { function: Function::RecordSize, order: 0, starts: 0, budget: 0, areas }
+        Call::lending(Function::RecordSize, vec![Area::bytes(random, bytes)])
     }
 
     /// Writes the record of a graph value to a buffer of so many bytes.
@@ -127,7 +144,7 @@ impl Call {
             Area::new(random, length, 1),
         ];
         let Graph { order, starts, .. } = *graph;
-        Call { function: Function::WriteRecord, order, starts, budget: 0, areas }
+        Call { order, starts, ..Call::lending(Function::WriteRecord, areas) }
     }
 
     /// The literals and the arrangement that judging lends.

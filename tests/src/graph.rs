@@ -2,7 +2,7 @@
 
 use std::cmp::Ordering;
 
-use crate::pairs::pairs;
+use crate::pairs::{pairs, pairs_in_order};
 
 /// The largest order.
 pub const MOST: u32 = 32;
@@ -191,10 +191,11 @@ impl Graph {
         self.unknowns == [0; 32]
     }
 
-    /// Of two full drawings of equal order, the earlier has 0 at the first pair
-    /// where they differ.
-    pub fn compare(&self, other: &Graph) -> Ordering {
-        pairs(self.order)
+    /// Of two full drawings of equal order, the earlier has 0 at the first pair, in the
+    /// order of a mode, where they differ.
+    pub fn compare(&self, mode: u32, other: &Graph) -> Ordering {
+        pairs_in_order(mode, self.order)
+            .into_iter()
             .map(|(i, j)| self.at(i, j).cmp(&other.at(i, j)))
             .find(|difference| difference.is_ne())
             .unwrap_or(Ordering::Equal)

@@ -2,7 +2,7 @@
 
 use crate::arrangement::{Arrangement, all_permitted, vertex_at};
 use crate::graph::{EDGE, Graph, NON_EDGE, Refusal, UNKNOWN};
-use crate::pairs::{pair_count, pair_number, pairs};
+use crate::pairs::{BY_COLUMNS, MODES, pair_count, pair_number, pairs, pairs_in_order};
 use crate::verdict::{Judgement, Verdict};
 
 pub type Pair = (u32, u32);
@@ -22,8 +22,8 @@ pub enum Walk {
     Open,
 }
 
-/// The walk along these pairs, a start of row order, and every pair that it met
-/// other than against itself. The entries are carried along, with what they were
+/// The walk along these pairs, the first ones in the order of a mode, and every pair that
+/// it met other than against itself. The entries are carried along, with what they were
 /// driven to.
 fn walked(graph: &Graph, beginning: &[u32], on: &[Pair]) -> (Walk, Vec<Pair>) {
     let mut entries = *graph;
@@ -45,19 +45,19 @@ fn walked(graph: &Graph, beginning: &[u32], on: &[Pair]) -> (Walk, Vec<Pair>) {
     (Walk::Open, met)
 }
 
-/// The pairs on which a beginning is judged.
-fn pairs_judged(graph: &Graph, beginning: &[u32]) -> Vec<Pair> {
+/// The pairs on which a beginning is judged: those of its places, but by rows only the
+/// ones of row 1 until it is complete.
+fn pairs_judged(graph: &Graph, mode: u32, beginning: &[u32]) -> Vec<Pair> {
     let length = beginning.len() as u32;
-    if length < graph.order {
-        (2..=length).map(|k| (1, k)).collect()
-    } else {
-        pairs(graph.order).collect()
-    }
+    let every_row = mode == BY_COLUMNS || length == graph.order;
+    let mut pairs = pairs_in_order(mode, graph.order);
+    pairs.retain(|&(i, j)| j <= length && (i == 1 || every_row));
+    pairs
 }
 
 /// How a beginning is judged.
-pub fn state(graph: &Graph, beginning: &[u32]) -> Walk {
-    walked(graph, beginning, &pairs_judged(graph, beginning)).0
+pub fn state(graph: &Graph, mode: u32, beginning: &[u32]) -> Walk {
+    walked(graph, beginning, &pairs_judged(graph, mode, beginning)).0
 }
 
 /// Every beginning, reached or not, in dictionary order.
@@ -79,16 +79,16 @@ pub fn beginnings(graph: &Graph) -> Vec<Vec<u32>> {
 }
 
 /// Whether all its shorter beginnings are open.
-fn reached(graph: &Graph, beginning: &[u32]) -> bool {
-    (1..beginning.len()).all(|length| state(graph, &beginning[..length]) == Walk::Open)
+fn reached(graph: &Graph, mode: u32, beginning: &[u32]) -> bool {
+    (1..beginning.len()).all(|length| state(graph, mode, &beginning[..length]) == Walk::Open)
 }
 
 /// The steps needed, and whether the last of them is won.
-pub fn steps_needed(graph: &Graph) -> (u32, bool) {
+pub fn steps_needed(graph: &Graph, mode: u32) -> (u32, bool) {
     let mut steps = 0;
-    for beginning in beginnings(graph).iter().filter(|b| reached(graph, b)) {
+    for beginning in beginnings(graph).iter().filter(|b| reached(graph, mode, b)) {
         steps += 1;
-        if let Walk::Won(_) = state(graph, beginning) {
+        if let Walk::Won(_) = state(graph, mode, beginning) {
             return (steps, true);
         }
     }
@@ -101,13 +101,13 @@ fn whole(graph: &Graph, p: &Arrangement) -> Vec<u32> {
 }
 
 /// The walk of an arrangement, along all pairs.
-pub fn walk(graph: &Graph, p: &Arrangement) -> Walk {
-    state(graph, &whole(graph, p))
+pub fn walk(graph: &Graph, mode: u32, p: &Arrangement) -> Walk {
+    state(graph, mode, &whole(graph, p))
 }
 
 /// The first certificate in dictionary order, with its winning pair.
-pub fn first_certificate(graph: &Graph) -> Option<(Arrangement, Pair)> {
-    all_permitted(graph).into_iter().find_map(|p| match walk(graph, &p) {
+pub fn first_certificate(graph: &Graph, mode: u32) -> Option<(Arrangement, Pair)> {
+    all_permitted(graph).into_iter().find_map(|p| match walk(graph, mode, &p) {
         Walk::Won(pair) => Some((p, pair)),
         Walk::Lost | Walk::Open => None,
     })
@@ -115,8 +115,8 @@ pub fn first_certificate(graph: &Graph) -> Option<(Arrangement, Pair)> {
 
 /// The literals that are false in the graph at the known entries that the walk met
 /// other than against themselves, by rising pair number.
-pub fn literals_met(graph: &Graph, p: &Arrangement) -> Vec<i32> {
-    let all: Vec<Pair> = pairs(graph.order).collect();
+pub fn literals_met(graph: &Graph, mode: u32, p: &Arrangement) -> Vec<i32> {
+    let all = pairs_in_order(mode, graph.order);
     let (_, met) = walked(graph, &whole(graph, p), &all);
     let literal = |&(i, j): &Pair| {
         let number = pair_number(graph.order, i, j) as i32;
@@ -147,34 +147,37 @@ pub fn knowing_only(graph: &Graph, literals: &[i32]) -> Graph {
 }
 
 /// Whether the walk is won over the graph that knows only what these literals say.
-pub fn is_won_knowing(graph: &Graph, p: &Arrangement, literals: &[i32]) -> bool {
-    matches!(walk(&knowing_only(graph, literals), p), Walk::Won(_))
+pub fn is_won_knowing(graph: &Graph, mode: u32, p: &Arrangement, literals: &[i32]) -> bool {
+    matches!(walk(&knowing_only(graph, literals), mode, p), Walk::Won(_))
 }
 
 /// The clause of a certificate: what is left of the literals met where each, from the
 /// highest pair number down, is dropped if the walk is still won without it.
-pub fn clause(graph: &Graph, p: &Arrangement) -> Vec<i32> {
-    let mut literals = literals_met(graph, p);
+pub fn clause(graph: &Graph, mode: u32, p: &Arrangement) -> Vec<i32> {
+    let mut literals = literals_met(graph, mode, p);
     for index in (0..literals.len()).rev() {
         let mut others = literals.clone();
         others.remove(index);
-        if is_won_knowing(graph, p, &others) {
+        if is_won_knowing(graph, mode, p, &others) {
             literals = others;
         }
     }
     literals
 }
 
-/// Judges a graph; refusals 8, 5. Only "smaller" writes to the buffer.
-pub fn judge_plain(graph: &Graph, budget: u32, buffer: &mut [i32]) -> Judgement {
+/// Judges a graph; refusals 16, 8, 5. Only "smaller" writes to the buffer.
+pub fn judge_plain(graph: &Graph, mode: u32, budget: u32, buffer: &mut [i32]) -> Judgement {
+    if !MODES.contains(&mode) {
+        return Judgement::without(Verdict::Refused(Refusal::plain(16)));
+    }
     if !graph.well_formed() {
         return Judgement::without(Verdict::Refused(Refusal::plain(8)));
     }
     if buffer.len() < pair_count(graph.order) as usize {
         return Judgement::without(Verdict::Refused(Refusal::plain(5)));
     }
-    let (steps, won) = steps_needed(graph);
-    let certificate = first_certificate(graph);
+    let (steps, won) = steps_needed(graph, mode);
+    let certificate = first_certificate(graph, mode);
     assert_eq!(won, certificate.is_some(), "a win and a certificate come together");
     if steps > budget {
         return Judgement::without(Verdict::Cut { steps: budget });
@@ -182,7 +185,7 @@ pub fn judge_plain(graph: &Graph, budget: u32, buffer: &mut [i32]) -> Judgement 
     let Some((arrangement, (row, column))) = certificate else {
         return Judgement::without(Verdict::Nothing { steps });
     };
-    let literals = clause(graph, &arrangement);
+    let literals = clause(graph, mode, &arrangement);
     buffer[..literals.len()].copy_from_slice(&literals);
     let verdict = Verdict::Smaller { row, column, steps };
     Judgement { verdict, arrangement, literals: literals.len() }

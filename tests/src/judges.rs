@@ -17,8 +17,9 @@ pub const UNTOUCHED: i32 = 7777;
 /// A judgement, and the whole buffer afterwards.
 pub type Judged = (Judgement, Vec<i32>);
 
-/// A way to judge graph values with a budget, each with room for so many literals.
-pub type Judge = fn(&[Graph], u32, usize) -> Vec<Judged>;
+/// A way to judge graph values in a mode with a budget, each with room for so many
+/// literals.
+pub type Judge = fn(&[Graph], u32, u32, usize) -> Vec<Judged>;
 
 pub const JUDGES: &[Judge] = &[
     by_oracle,
@@ -27,27 +28,27 @@ pub const JUDGES: &[Judge] = &[
     by_library,
 ];
 
-fn by_oracle(graphs: &[Graph], budget: u32, room: usize) -> Vec<Judged> {
+fn by_oracle(graphs: &[Graph], mode: u32, budget: u32, room: usize) -> Vec<Judged> {
     let judged = |graph| {
         let mut literals = vec![UNTOUCHED; room];
-        (judge(graph, budget, &mut literals), literals)
+        (judge(graph, mode, budget, &mut literals), literals)
     };
     graphs.iter().map(judged).collect()
 }
 
-pub fn by_baseline(graphs: &[Graph], budget: u32, room: usize) -> Vec<Judged> {
-    by_calls(baseline::make, graphs, budget, room)
+pub fn by_baseline(graphs: &[Graph], mode: u32, budget: u32, room: usize) -> Vec<Judged> {
+    by_calls(baseline::make, graphs, mode, budget, room)
 }
 
 #[cfg(feature = "driver")]
-fn by_library(graphs: &[Graph], budget: u32, room: usize) -> Vec<Judged> {
-    by_calls(library::make, graphs, budget, room)
+fn by_library(graphs: &[Graph], mode: u32, budget: u32, room: usize) -> Vec<Judged> {
+    by_calls(library::make, graphs, mode, budget, room)
 }
 
-fn by_calls(make: Make, graphs: &[Graph], budget: u32, room: usize) -> Vec<Judged> {
+fn by_calls(make: Make, graphs: &[Graph], mode: u32, budget: u32, room: usize) -> Vec<Judged> {
     let mut random = Random::new(0);
     let call = |graph| {
-        let mut call = Call::judge_rows(&mut random, graph, budget, room);
+        let mut call = Call::judge_rows(&mut random, graph, mode, budget, room);
         let (literals, arrangement) = call.certificate();
         literals.put_numbers(&vec![UNTOUCHED as u32; room]);
         arrangement.put_bytes(&[0; 32]);

@@ -7,6 +7,7 @@
 pub mod archive;
 pub mod arrangement;
 pub mod baseline;
+mod board;
 pub mod call;
 pub mod clause;
 pub mod graph;
@@ -24,6 +25,8 @@ pub mod program;
 pub mod random;
 pub mod record;
 pub mod samples;
+mod search_columns;
+mod search_rows;
 pub mod smallest;
 pub mod trials;
 pub mod verdict;

@@ -67,7 +67,7 @@ fn sent(calls: &[Call]) -> Vec<u8> {
     };
     put(&[calls.len() as u32]);
     for call in calls {
-        put(&[call.function as u32, call.order, call.starts, call.budget]);
+        put(&[call.function as u32, call.order, call.starts, call.mode, call.budget]);
         for Area { words, start, length } in &call.areas {
             put(&[words.len() as u32 * 4, *start as u32, *length as u32]);
             put(words);

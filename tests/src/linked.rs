@@ -3,9 +3,19 @@
 
 use crate::call::{Call, Function};
 
-type JudgeRecord = unsafe extern "C" fn(*const u8, usize, u32, *mut i32, usize, *mut u8) -> u64;
-type JudgeRows =
-    unsafe extern "C" fn(u32, *const u32, *const u32, u32, u32, *mut i32, usize, *mut u8) -> u64;
+type JudgeRecord =
+    unsafe extern "C" fn(*const u8, usize, u32, u32, *mut i32, usize, *mut u8) -> u64;
+type JudgeRows = unsafe extern "C" fn(
+    u32,
+    *const u32,
+    *const u32,
+    u32,
+    u32,
+    u32,
+    *mut i32,
+    usize,
+    *mut u8,
+) -> u64;
 type RecordSize = unsafe extern "C" fn(*const u8, usize) -> u64;
 type WriteRecord = unsafe extern "C" fn(u32, *const u32, *const u32, u32, *mut u8, usize) -> u64;
 
@@ -20,14 +30,14 @@ pub struct Linked {
 impl Linked {
     /// Makes a call.
     pub fn make(&self, call: &mut Call) -> u64 {
-        let Call { function, order, starts, budget, ref mut areas } = *call;
+        let Call { function, order, starts, mode, budget, ref mut areas } = *call;
         let lent: Vec<_> = areas.iter_mut().map(|area| (area.lend(), area.length)).collect();
         // SAFETY: each pointer is to as many elements as the length beside it says,
         // rows and arrangements are 32, and numbers are aligned.
         unsafe {
             match (function, &lent[..]) {
                 (Function::JudgeRecord, &[(record, bytes), (literals, room), (placed, 32)]) => {
-                    (self.judge_record)(record, bytes, budget, literals.cast(), room, placed)
+                    (self.judge_record)(record, bytes, mode, budget, literals.cast(), room, placed)
                 }
                 (
                     Function::JudgeRows,
@@ -36,7 +46,7 @@ impl Linked {
                     let (edges, unknowns, literals) =
                         (edges.cast(), unknowns.cast(), literals.cast());
                     let judge = self.judge_rows;
-                    judge(order, edges, unknowns, starts, budget, literals, room, placed)
+                    judge(order, edges, unknowns, starts, mode, budget, literals, room, placed)
                 }
                 (Function::RecordSize, &[(record, bytes)]) => (self.record_size)(record, bytes),
                 (Function::WriteRecord, &[(edges, 32), (unknowns, 32), (out, room)]) => {

@@ -4,6 +4,7 @@ use std::fmt::Write;
 
 use crate::graph::Refusal;
 use crate::judge::judge;
+use crate::pairs::BY_ROWS;
 use crate::record::read;
 use crate::verdict::Verdict;
 
@@ -34,7 +35,7 @@ pub fn listing(book: &[u8]) -> String {
         rest = reading.follows;
         let order = reading.graph.order;
         let mut literals = [0; 496];
-        let judgement = judge(&reading.graph, BUDGET, &mut literals);
+        let judgement = judge(&reading.graph, BY_ROWS, BUDGET, &mut literals);
         write!(text, "{number} {order} ").expect("a string takes it");
         match judgement.verdict {
             Verdict::Smaller { row, column, steps } => {

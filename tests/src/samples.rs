@@ -1,6 +1,6 @@
 //! Graphs to try: random ones, smallest ones, and values that are no graphs.
 
-use crate::arrangement::relabel;
+use crate::arrangement::relabelled;
 use crate::graph::{EDGE, Graph, NON_EDGE, UNKNOWN};
 use crate::judge::judge;
 use crate::pairs::{pair_count, pairs};
@@ -64,19 +64,19 @@ pub fn graph(random: &mut Random, order: u32) -> Graph {
     Graph { starts: starts(random, order, share), ..sprinkled(random, order, edges, unknowns) }
 }
 
-/// The graph, and what its certificates make of it one after another, until the budget
-/// finds none. Each makes it earlier, with unknown between 0 and 1, so this ends.
-pub fn settling(graph: Graph, budget: u32) -> impl Iterator<Item = Graph> {
+/// The graph, and what its certificates of a mode make of it one after another, until the
+/// budget finds none. Each makes it earlier, with unknown between 0 and 1, so this ends.
+pub fn settling(graph: Graph, mode: u32, budget: u32) -> impl Iterator<Item = Graph> {
     std::iter::successors(Some(graph), move |graph| {
-        let judgement = judge(graph, budget, &mut [0; 496]);
+        let judgement = judge(graph, mode, budget, &mut [0; 496]);
         let smaller = matches!(judgement.verdict, Verdict::Smaller { .. });
-        smaller.then(|| relabel(graph, &judgement.arrangement).expect("a certificate is permitted"))
+        smaller.then(|| relabelled(graph, &judgement.arrangement))
     })
 }
 
 /// The last of these, for which the budget finds no certificate.
-pub fn settled(graph: Graph, budget: u32) -> Graph {
-    settling(graph, budget).last().expect("the graph itself is one")
+pub fn settled(graph: Graph, mode: u32, budget: u32) -> Graph {
+    settling(graph, mode, budget).last().expect("the graph itself is one")
 }
 
 /// The graph with one bit of its value turned, or with another order.

@@ -1,11 +1,11 @@
 //! Smallest graphs and certificates by brute force, for orders up to 7.
 //!
-//! A full drawing is the number whose bits are its entries, the first pair on
-//! top: then "earlier" is "less".
+//! A full drawing is the number whose bits are its entries, the first pair by rows on
+//! top.
 
 use crate::arrangement::{Arrangement, all_permitted, vertex_at};
 use crate::graph::{EDGE, Graph, UNKNOWN};
-use crate::pairs::{pair_count, pair_number, pairs};
+use crate::pairs::{pair_count, pair_number, pairs, pairs_in_order};
 
 /// The bit of a pair in a drawing.
 fn pair_bit(order: u32, i: u32, j: u32) -> u32 {
@@ -26,13 +26,14 @@ pub fn all_starts(order: u32) -> impl Iterator<Item = u32> {
     (0..1 << (order - 1)).map(|others| others << 1 | 1)
 }
 
-/// Where the entries of a relabelled drawing come from.
+/// The entries of a relabelled drawing and where they come from, in the order of a mode.
 pub struct Copying(Vec<(u32, u32)>);
 
 impl Copying {
-    pub fn new(order: u32, p: &Arrangement) -> Copying {
-        let from = |(i, j)| pair_bit(order, vertex_at(p, i), vertex_at(p, j));
-        Copying(pairs(order).map(|(i, j)| (pair_bit(order, i, j), from((i, j)))).collect())
+    pub fn new(order: u32, mode: u32, p: &Arrangement) -> Copying {
+        let bits =
+            |(i, j)| (pair_bit(order, i, j), pair_bit(order, vertex_at(p, i), vertex_at(p, j)));
+        Copying(pairs_in_order(mode, order).into_iter().map(bits).collect())
     }
 
     /// The drawing relabelled.
@@ -41,17 +42,23 @@ impl Copying {
         set.fold(0, |copy, &(to, _)| copy | to)
     }
 
-    /// Whether the drawing becomes strictly earlier.
+    /// Whether the drawing becomes strictly earlier: the first entry that changes was 1.
     pub fn is_earlier(&self, drawing: u32) -> bool {
-        self.copy(drawing) < drawing
+        let is_set = |bit| drawing & bit != 0;
+        let changed = self.0.iter().find(|&&(to, from)| is_set(to) != is_set(from));
+        changed.is_some_and(|&(to, _)| is_set(to))
     }
 }
 
-/// All drawings that no permitted arrangement makes earlier.
-pub fn smallest(order: u32, starts: u32) -> Vec<u32> {
+/// Every way to copy a drawing that these blocks permit.
+pub fn copyings(order: u32, starts: u32, mode: u32) -> Vec<Copying> {
     let blocks = Graph { starts, ..Graph::empty(order) };
-    let copyings: Vec<Copying> =
-        all_permitted(&blocks).iter().map(|p| Copying::new(order, p)).collect();
+    all_permitted(&blocks).iter().map(|p| Copying::new(order, mode, p)).collect()
+}
+
+/// All drawings that no permitted arrangement makes earlier.
+pub fn smallest(order: u32, starts: u32, mode: u32) -> Vec<u32> {
+    let copyings = copyings(order, starts, mode);
     (0..1 << pair_count(order))
         .filter(|&drawing| !copyings.iter().any(|copying| copying.is_earlier(drawing)))
         .collect()
@@ -73,8 +80,8 @@ pub fn full_drawings(graph: &Graph) -> impl Iterator<Item = u32> {
 }
 
 /// Whether every full drawing of the graph has an earlier copy by p.
-pub fn is_certificate(graph: &Graph, p: &Arrangement) -> bool {
-    let copying = Copying::new(graph.order, p);
+pub fn is_certificate(graph: &Graph, mode: u32, p: &Arrangement) -> bool {
+    let copying = Copying::new(graph.order, mode, p);
     full_drawings(graph).all(|drawing| copying.is_earlier(drawing))
 }
 
@@ -108,7 +115,7 @@ impl Clause {
 }
 
 /// Whether every full drawing that breaks these literals has an earlier copy by p.
-pub fn is_sound(order: u32, p: &Arrangement, literals: &[i32]) -> bool {
-    let copying = Copying::new(order, p);
+pub fn is_sound(order: u32, mode: u32, p: &Arrangement, literals: &[i32]) -> bool {
+    let copying = Copying::new(order, mode, p);
     Clause::new(order, literals).broken_by(order).all(|drawing| copying.is_earlier(drawing))
 }

@@ -39,14 +39,14 @@ pub fn tried(add: impl FnOnce(&mut Trials)) {
 
 impl Trials {
     /// A call that judges rows.
-    pub fn judge_rows(&mut self, graph: &Graph, budget: u32, room: usize) {
-        let call = Call::judge_rows(&mut self.random, graph, budget, room);
+    pub fn judge_rows(&mut self, graph: &Graph, mode: u32, budget: u32, room: usize) {
+        let call = Call::judge_rows(&mut self.random, graph, mode, budget, room);
         self.judged(call, graph, room);
     }
 
     /// A call that judges the bytes of a record, or bytes that are none.
-    pub fn judge_record(&mut self, bytes: &[u8], budget: u32, room: usize) {
-        let call = Call::judge_record(&mut self.random, bytes, budget, room);
+    pub fn judge_record(&mut self, bytes: &[u8], mode: u32, budget: u32, room: usize) {
+        let call = Call::judge_record(&mut self.random, bytes, mode, budget, room);
         let reading = read(bytes);
         match reading.refusal {
             Some(refusal) => {
@@ -77,7 +77,7 @@ impl Trials {
 
     fn judged(&mut self, call: Call, graph: &Graph, room: usize) {
         let mut buffer = vec![0; room];
-        let judgement = judge(graph, call.budget, &mut buffer);
+        let judgement = judge(graph, call.mode, call.budget, &mut buffer);
         let mut after = call.clone();
         if matches!(judgement.verdict, Verdict::Smaller { .. }) {
             let clause: Vec<u32> =

@@ -8,7 +8,7 @@ use std::env;
 use std::process::Output;
 
 use oracle::graph::{EDGE, Graph};
-use oracle::pairs::pairs;
+use oracle::pairs::{BY_ROWS, pairs};
 use oracle::program::command;
 use oracle::smallest::{all_starts, graph_of, smallest};
 
@@ -53,8 +53,9 @@ fn most_links(graph: &Graph) -> u32 {
 
 /// The smallest drawings that meet a wish are listed, and nothing else.
 fn check(order: u32, starts: u32, wish: &str, meets: impl Fn(&Graph) -> bool) {
-    let graphs =
-        smallest(order, starts).into_iter().map(|drawing| graph_of(order, starts, drawing));
+    let graphs = smallest(order, starts, BY_ROWS)
+        .into_iter()
+        .map(|drawing| graph_of(order, starts, drawing));
     let mut expected: Vec<String> = graphs.filter(meets).map(|graph| graph6(&graph)).collect();
     expected.sort();
     let blocks: Vec<String> =

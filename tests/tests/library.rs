@@ -8,7 +8,7 @@ use std::env;
 
 use oracle::graph::Graph;
 use oracle::judge::judge;
-use oracle::pairs::pair_count;
+use oracle::pairs::{MODES, pair_count};
 use oracle::random::Random;
 use oracle::record::{read, record};
 use oracle::samples;
@@ -42,11 +42,17 @@ fn some_bytes(random: &mut Random) -> Vec<u8> {
     bytes
 }
 
+/// One of the two modes, seldom a number that is none.
+fn some_mode(random: &mut Random) -> u32 {
+    let none = [0, 3, 4, 255, 256, 257, 258, 1 << 16 | 1, 1 << 31 | 2, u32::MAX];
+    if random.chance(5) { *random.pick(&none) } else { *random.pick(&MODES) }
+}
+
 /// A budget of 0, 1, around the steps needed or the largest, as long as the
 /// search stays short.
-fn budget(random: &mut Random, graph: &Graph) -> u32 {
+fn budget(random: &mut Random, graph: &Graph, mode: u32) -> u32 {
     const SHORT: u32 = 3_000;
-    let judgement = judge(graph, SHORT, &mut [0; 496]);
+    let judgement = judge(graph, mode, SHORT, &mut [0; 496]);
     match judgement.verdict {
         Verdict::Cut { .. } => *random.pick(&[0, 1, SHORT - 1, SHORT]),
         Verdict::Refused(_) => *random.pick(&[0, 1, u32::MAX]),
@@ -73,7 +79,12 @@ fn order(random: &mut Random) -> u32 {
 fn some_graph(random: &mut Random) -> Graph {
     let order = order(random);
     let graph = samples::graph(random, order);
-    if random.chance(30) { samples::settled(graph, 200) } else { graph }
+    if random.chance(30) {
+        let mode = *random.pick(&MODES);
+        samples::settled(graph, mode, 200)
+    } else {
+        graph
+    }
 }
 
 /// A graph value, one time in four with damage.
@@ -88,10 +99,12 @@ fn every_graph_up_to_order_4() {
         for order in 1..=4 {
             for graph in samples::every_graph(order) {
                 let needed = pair_count(order) as usize;
-                let steps = judge(&graph, u32::MAX, &mut [0; 6]).steps();
-                for budget in [0, 1, steps - 1, steps, steps + 1, u32::MAX] {
-                    trials.judge_rows(&graph, budget, needed);
-                    trials.judge_record(&record(&graph), budget, needed);
+                for mode in MODES {
+                    let steps = judge(&graph, mode, u32::MAX, &mut [0; 6]).steps();
+                    for budget in [0, 1, steps - 1, steps, steps + 1, u32::MAX] {
+                        trials.judge_rows(&graph, mode, budget, needed);
+                        trials.judge_record(&record(&graph), mode, budget, needed);
+                    }
                 }
             }
         }
@@ -105,8 +118,9 @@ fn random_rows() {
         for _ in 0..calls() / 2 {
             let graph = some_value(&mut random);
             let length = literals_length(&mut random, graph.order);
-            let budget = budget(&mut random, &graph);
-            trials.judge_rows(&graph, budget, length);
+            let mode = some_mode(&mut random);
+            let budget = budget(&mut random, &graph, mode);
+            trials.judge_rows(&graph, mode, budget, length);
         }
     });
 }
@@ -119,8 +133,9 @@ fn random_records() {
             let bytes = some_bytes(&mut random);
             let graph = read(&bytes).graph;
             let length = literals_length(&mut random, graph.order);
-            let budget = budget(&mut random, &graph);
-            trials.judge_record(&bytes, budget, length);
+            let mode = some_mode(&mut random);
+            let budget = budget(&mut random, &graph, mode);
+            trials.judge_record(&bytes, mode, budget, length);
         }
     });
 }
@@ -132,7 +147,8 @@ fn records_cut_at_every_byte() {
         for order in 1..=32 {
             let bytes = record(&samples::graph(&mut random, order));
             for length in 0..=bytes.len() {
-                trials.judge_record(&bytes[..length], 100, 496);
+                let mode = some_mode(&mut random);
+                trials.judge_record(&bytes[..length], mode, 100, 496);
             }
         }
     });
@@ -145,7 +161,7 @@ fn every_buffer_length_of_every_order() {
         for order in 1..=32 {
             let graph = samples::sprinkled(&mut random, order, 40, 20);
             for length in 0..=500 {
-                trials.judge_rows(&graph, 1_000, length);
+                MODES.iter().for_each(|&mode| trials.judge_rows(&graph, mode, 1_000, length));
             }
         }
     });
@@ -153,6 +169,7 @@ fn every_buffer_length_of_every_order() {
 
 #[test]
 fn every_first_byte_with_every_short_length() {
+    let mut random = Random::new(16);
     tried(|trials| {
         for first in 0..=255 {
             for length in 0..140 {
@@ -160,7 +177,7 @@ fn every_first_byte_with_every_short_length() {
                 if let Some(byte) = bytes.first_mut() {
                     *byte = first;
                 }
-                trials.judge_record(&bytes, 100, 496);
+                trials.judge_record(&bytes, some_mode(&mut random), 100, 496);
             }
         }
     });

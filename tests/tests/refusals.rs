@@ -4,7 +4,9 @@ use oracle::arrangement::{compose, invert, listed, relabel};
 use oracle::graph::{Counts, Graph, Refusal};
 use oracle::judge_plain::judge_plain;
 use oracle::judges::{JUDGES, UNTOUCHED};
-use oracle::record::{Reader, field, read, size, write};
+use oracle::pairs::MODES;
+use oracle::record::{Reader, field, read, record, size, write};
+use oracle::trials::tried;
 use oracle::verdict::{Judgement, Verdict};
 
 fn refusal(number: u32, place: u64) -> Refusal {
@@ -55,8 +57,12 @@ fn a_malformed_graph_is_refused_first() {
         assert_eq!(relabel(&graph, &[9; 32]), Err(eight));
         assert_eq!(write(&graph, &mut []), Err(eight));
         let refused = Judgement::without(Verdict::Refused(eight));
-        assert!(JUDGES.iter().all(|judge| judge(&[graph], 100, 0) == [(refused, vec![])]));
-        assert_eq!(judge_plain(&graph, 100, &mut []), refused);
+        for mode in MODES {
+            assert!(
+                JUDGES.iter().all(|judge| judge(&[graph], mode, 100, 0) == [(refused, vec![])])
+            );
+            assert_eq!(judge_plain(&graph, mode, 100, &mut []), refused);
+        }
     }
 }
 
@@ -191,9 +197,51 @@ fn judging_refuses_a_short_buffer_before_it_searches() {
             } else {
                 Verdict::Cut { steps: 0 }
             });
-            for judge in JUDGES {
-                assert_eq!(judge(&[graph], 0, length), [(expected, vec![UNTOUCHED; length])]);
+            for (judge, mode) in JUDGES.iter().flat_map(|judge| MODES.map(|mode| (judge, mode))) {
+                assert_eq!(judge(&[graph], mode, 0, length), [(expected, vec![UNTOUCHED; length])]);
             }
         }
     }
+}
+
+/// Numbers that are no mode.
+const NO_MODES: [u32; 6] = [0, 3, 4, 257, 1 << 31 | 2, u32::MAX];
+
+/// Refusal 16 comes before 8 and 5, and leaves the buffer.
+#[test]
+fn a_mode_that_is_none_is_refused_before_the_graph_and_the_buffer() {
+    let refused = Judgement::without(Verdict::Refused(refusal(16, 0)));
+    let good = [Graph::drawn(3, "100"), Graph::drawn(3, "1u0"), Graph::empty(1)];
+    for graph in good.into_iter().chain(malformed()) {
+        for mode in NO_MODES {
+            for (budget, length) in [(0, 0), (100, 2), (100, 3), (u32::MAX, 496)] {
+                let mut literals = vec![UNTOUCHED; length];
+                assert_eq!(judge_plain(&graph, mode, budget, &mut literals), refused);
+                let untouched = vec![UNTOUCHED; length];
+                assert_eq!(literals, untouched);
+                for judge in JUDGES {
+                    let told = judge(&[graph], mode, budget, length);
+                    assert_eq!(told, [(refused, untouched.clone())], "{graph:?} mode {mode}");
+                }
+            }
+        }
+    }
+}
+
+/// A record's own refusals come before 16, and 16 before 5; nothing lent is changed.
+#[test]
+fn a_mode_that_is_none_is_refused_after_the_record_and_before_the_buffer() {
+    let good = record(&Graph::drawn(3, "100"));
+    let bad: [&[u8]; 7] =
+        [&[], &[0x00], &[0x84], &[0x0C], &[0x0C, 0x70], &[0x0C, 0x41], &[0x80; 128]];
+    tried(|trials| {
+        for mode in NO_MODES {
+            for room in [0, 2, 3, 496] {
+                trials.judge_rows(&Graph::drawn(3, "100"), mode, 100, room);
+                malformed().iter().for_each(|graph| trials.judge_rows(graph, mode, 100, room));
+                trials.judge_record(&good, mode, 100, room);
+                bad.iter().for_each(|bytes| trials.judge_record(bytes, mode, 100, room));
+            }
+        }
+    });
 }

@@ -4,40 +4,57 @@ use oracle::arrangement::listed;
 use oracle::graph::{Graph, Refusal};
 use oracle::judge_plain::judge_plain;
 use oracle::judges::{JUDGES, UNTOUCHED};
+use oracle::pairs::{BY_COLUMNS, BY_ROWS, MODES};
 use oracle::record::{read, record};
 use oracle::verdict::{Judgement, Verdict};
 
 /// Judges in every way, all of which must agree; gives the clause too.
-fn judged(graph: &Graph, budget: u32) -> (Judgement, Vec<i32>) {
+fn judged(graph: &Graph, mode: u32, budget: u32) -> (Judgement, Vec<i32>) {
     let mut literals = vec![UNTOUCHED; 496];
-    let judgement = judge_plain(graph, budget, &mut literals);
+    let judgement = judge_plain(graph, mode, budget, &mut literals);
     for judge in JUDGES {
-        assert_eq!(judge(&[*graph], budget, 496), [(judgement, literals.clone())]);
+        assert_eq!(judge(&[*graph], mode, budget, 496), [(judgement, literals.clone())]);
     }
     literals.truncate(judgement.literals);
     (judgement, literals)
 }
 
-fn smaller(graph: Graph, vertices: &[u32], pair: (u32, u32), clause: &[i32], steps: u32) {
-    let verdict = Verdict::Smaller { row: pair.0, column: pair.1, steps };
+/// Checks what is told of a graph with budget enough, and that one step less is cut.
+fn told(graph: &Graph, mode: u32, expected: Judgement, clause: &[i32]) {
+    let steps = expected.steps();
+    assert_eq!(judged(graph, mode, u32::MAX), (expected, clause.to_vec()));
+    assert_eq!(judged(graph, mode, steps), (expected, clause.to_vec()));
+    for budget in [steps - 1, 0] {
+        let cut = Judgement::without(Verdict::Cut { steps: budget });
+        assert_eq!(judged(graph, mode, budget), (cut, vec![]));
+    }
+}
+
+fn smaller_in(
+    mode: u32,
+    graph: Graph,
+    vertices: &[u32],
+    (row, column): (u32, u32),
+    clause: &[i32],
+    steps: u32,
+) {
+    let verdict = Verdict::Smaller { row, column, steps };
     let arrangement = listed(vertices);
     let expected = Judgement { verdict, arrangement, literals: clause.len() };
-    assert_eq!(judged(&graph, u32::MAX), (expected, clause.to_vec()));
-    assert_eq!(judged(&graph, steps), (expected, clause.to_vec()));
-    cut(&graph, steps - 1);
+    told(&graph, mode, expected, clause);
+}
+
+fn none_in(mode: u32, graph: Graph, steps: u32) {
+    told(&graph, mode, Judgement::without(Verdict::Nothing { steps }), &[]);
+}
+
+/// The same in both modes.
+fn smaller(graph: Graph, vertices: &[u32], pair: (u32, u32), clause: &[i32], steps: u32) {
+    MODES.iter().for_each(|&mode| smaller_in(mode, graph, vertices, pair, clause, steps));
 }
 
 fn none(graph: Graph, steps: u32) {
-    let expected = Judgement::without(Verdict::Nothing { steps });
-    assert_eq!(judged(&graph, u32::MAX), (expected, vec![]));
-    assert_eq!(judged(&graph, steps), (expected, vec![]));
-    cut(&graph, steps - 1);
-}
-
-fn cut(graph: &Graph, budget: u32) {
-    let expected = Judgement::without(Verdict::Cut { steps: budget });
-    assert_eq!(judged(graph, budget), (expected, vec![]));
-    assert_eq!(judged(graph, 0), (Judgement::without(Verdict::Cut { steps: 0 }), vec![]));
+    MODES.iter().for_each(|&mode| none_in(mode, graph, steps));
 }
 
 #[test]
@@ -76,9 +93,16 @@ fn with_unknowns() {
 
 #[test]
 fn by_driven_values() {
-    smaller(Graph::drawn(4, "0u0101"), &[1, 2, 4, 3], (2, 3), &[3, -4, 5], 6);
+    for (mode, steps) in [(BY_ROWS, 6), (BY_COLUMNS, 5)] {
+        let graph = Graph::drawn(4, "0u0101");
+        smaller_in(mode, graph, &[1, 2, 4, 3], (2, 3), &[3, -4, 5], steps);
+    }
     smaller(Graph::drawn(4, "uu0110"), &[1, 4, 2, 3], (2, 4), &[3, -4, 6], 10);
-    none(Graph::drawn(4, "0u0010"), 44);
+    let graph = Graph::drawn(4, "1uuu00");
+    smaller_in(BY_ROWS, graph, &[2, 4, 1, 3], (1, 2), &[-1, 5], 24);
+    smaller_in(BY_COLUMNS, graph, &[2, 3, 4, 1], (2, 3), &[-1, 5, 6], 21);
+    none_in(BY_ROWS, Graph::drawn(4, "0u0010"), 44);
+    none_in(BY_COLUMNS, Graph::drawn(4, "0u0010"), 40);
 }
 
 #[test]
@@ -96,9 +120,11 @@ fn edges_of_the_record() {
 fn literals_of_order_32() {
     let graph = Graph::empty(32);
     for judge in JUDGES {
-        let cut = Judgement::without(Verdict::Cut { steps: 10 });
-        assert_eq!(judge(&[graph], 10, 496), [(cut, vec![UNTOUCHED; 496])]);
-        let refused = Judgement::without(Verdict::Refused(Refusal { number: 5, place: 0 }));
-        assert_eq!(judge(&[graph], 10, 495), [(refused, vec![UNTOUCHED; 495])]);
+        for mode in MODES {
+            let cut = Judgement::without(Verdict::Cut { steps: 10 });
+            assert_eq!(judge(&[graph], mode, 10, 496), [(cut, vec![UNTOUCHED; 496])]);
+            let refused = Judgement::without(Verdict::Refused(Refusal { number: 5, place: 0 }));
+            assert_eq!(judge(&[graph], mode, 10, 495), [(refused, vec![UNTOUCHED; 495])]);
+        }
     }
 }

@@ -90,10 +90,10 @@ written-small g out =
 -- ---- judgements
 
 -- judging a record stays within the bounds of judging
-pub record-bounded : (s : List ℕ) (budget room : ℕ) → Bounded budget (judgeRecord s budget room)
+pub record-bounded : (mode : ℕ) (s : List ℕ) (budget room : ℕ) → Bounded budget (judgeRecord mode s budget room)
 unfolding judgeRecord told without pick
-record-bounded s budget room = go (eqb (readAnswer s .refusal) 0)
+record-bounded mode s budget room = go (eqb (readAnswer s .refusal) 0)
   where
-    go : (t : Bool) → Bounded budget (pick t (judgeAnswer (readAnswer s .graph) budget room) (without (Refused (readAnswer s .refusal) (readAnswer s .place))))
-    go true = judged-bounded (readAnswer s .graph) budget room
+    go : (t : Bool) → Bounded budget (pick t (judgeAnswer mode (readAnswer s .graph) budget room) (without (Refused (readAnswer s .refusal) (readAnswer s .place))))
+    go true = judged-bounded mode (readAnswer s .graph) budget room
     go false = omega (arith, read-small s)

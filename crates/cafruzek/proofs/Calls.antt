@@ -14,15 +14,16 @@ use Rattle.walk.specs.Earlier.{LexLess}
 use Rattle.graph.specs.declared.Graph.{Graph}
 use Rattle.graph.specs.Graph.{relabelled}
 use Rattle.graph.specs.WellFormed.{WellFormed}
-use Rattle.judging.specs.Order.{FullyDrawn, matrixWord}
+use Rattle.judging.specs.Order.{FullyDrawn, wordIn}
 use Rattle.graph.specs.Counts.{entryAt}
-use Rattle.pairs.specs.Pairs.{pairs, pairCount}
+use Rattle.pairs.specs.Pairs.{pairs}
 use Rattle.record.specs.Answers.{readAnswer}
 use Rattle.judging.specs.declared.Verdict.the-variants.{Refused}
 use Rattle.judging.specs.declared.Judged.{Judged}
 use Rattle.judging.specs.Judging.{stepsFor}
 use Rattle.judging.specs.Answer.{told, without, judgeAnswer, judgeBuffer}
 use Rattle.judging.specs.Certificates.{FullGraph, Certified}
+use Rattle.judging.specs.InWords.{Taken}
 use Rattle.judging.specs.Drawings.{EarlierCopy, Smallest, Needs, written}
 use Rattle.judging.proofs.Exact.{exact-smaller, exact-none, exact-cut, exact-cut-only, not-refused, exact-steps}
 use Rattle.judging.proofs.Sound.{written-sound, written-published}
@@ -41,117 +42,117 @@ use Rattle.cafruzek.proofs.Bounds.{record-bounded}
 -- ---- either function judges the graph alike
 
 -- a record that is read is judged as the rows of its graph are
-record-judged : (s : List ℕ) (budget room : ℕ) → readAnswer s .refusal ≡ 0 → judgeRecord s budget room ≡ judgeAnswer (readAnswer s .graph) budget room
+record-judged : (mode : ℕ) (s : List ℕ) (budget room : ℕ) → readAnswer s .refusal ≡ 0 → judgeRecord mode s budget room ≡ judgeAnswer mode (readAnswer s .graph) budget room
 unfolding judgeRecord pick
-record-judged s budget room e = rw (eq-eqb (readAnswer s .refusal) 0 e)
+record-judged mode s budget room e = rw (eq-eqb (readAnswer s .refusal) 0 e)
 
-record-written : (s : List ℕ) (budget : ℕ) (buffer : List ℤ) → readAnswer s .refusal ≡ 0 → judgeRecordBuffer s budget buffer ≡ judgeBuffer (readAnswer s .graph) budget buffer
+record-written : (mode : ℕ) (s : List ℕ) (budget : ℕ) (buffer : List ℤ) → readAnswer s .refusal ≡ 0 → judgeRecordBuffer mode s budget buffer ≡ judgeBuffer mode (readAnswer s .graph) budget buffer
 unfolding judgeRecordBuffer pick
-record-written s budget buffer e = rw (eq-eqb (readAnswer s .refusal) 0 e)
+record-written mode s budget buffer e = rw (eq-eqb (readAnswer s .refusal) 0 e)
 
 -- and one that is refused is refused so
-record-refused : (s : List ℕ) (budget room : ℕ) → readAnswer s .refusal ≢ 0 → judgeRecord s budget room ≡ without (Refused (readAnswer s .refusal) (readAnswer s .place))
+record-refused : (mode : ℕ) (s : List ℕ) (budget room : ℕ) → readAnswer s .refusal ≢ 0 → judgeRecord mode s budget room ≡ without (Refused (readAnswer s .refusal) (readAnswer s .place))
 unfolding judgeRecord pick
-record-refused s budget room ne = rw (ne-eqb (readAnswer s .refusal) 0 ne)
+record-refused mode s budget room ne = rw (ne-eqb (readAnswer s .refusal) 0 ne)
 
 -- so whatever a call leaves is what the call by rows leaves
-as-rows : (g : Graph) (budget : ℕ) (buffer : List ℤ) (lent : List ℕ) {o : Outcome} → Judges g budget buffer lent o → o ≡ judgedRows g budget buffer lent
-as-rows g budget buffer lent by-rows = refl
-as-rows g budget buffer lent (by-record s e same) = rw (record-judged s budget (length buffer) e, record-written s budget buffer e, same)
+as-rows : (mode : ℕ) (g : Graph) (budget : ℕ) (buffer : List ℤ) (lent : List ℕ) {o : Outcome} → Judges mode g budget buffer lent o → o ≡ judgedRows mode g budget buffer lent
+as-rows mode g budget buffer lent by-rows = refl
+as-rows mode g budget buffer lent (by-record s e same) = rw (record-judged mode s budget (length buffer) e, record-written mode s budget buffer e, same)
 
 -- ---- of any call that judges g
 
-module _ (g : Graph) (budget : ℕ) (h : budget < 2 ^ 32) (buffer : List ℤ) (lent : List ℕ) {o : Outcome} (call : Judges g budget buffer lent o) where
+module _ (mode : ℕ) (g : Graph) (budget : ℕ) (h : budget < 2 ^ 32) (buffer : List ℤ) (lent : List ℕ) {o : Outcome} (call : Judges mode g budget buffer lent o) where
   -- the number is that of the judgement
-  number-is : o .number ≡ packed (judgeAnswer g budget (length buffer))
-  number-is = ap (λ (x : Outcome). x .number) (as-rows g budget buffer lent call)
+  number-is : o .number ≡ packed (judgeAnswer mode g budget (length buffer))
+  number-is = ap (λ (x : Outcome). x .number) (as-rows mode g budget buffer lent call)
 
   -- a code below 3 is the kind of the verdict
-  kind-is : (k : ℕ) → k < 3 → (codeIn (o .number) ≡ k) ↔ (told (judgeAnswer g budget (length buffer) .verdict) .kind ≡ k)
-  kind-is k l = rw number-is (code-kind budget (judgeAnswer g budget (length buffer)) (judged-bounded g budget (length buffer)) h k l)
+  kind-is : (k : ℕ) → k < 3 → (codeIn (o .number) ≡ k) ↔ (told (judgeAnswer mode g budget (length buffer) .verdict) .kind ≡ k)
+  kind-is k l = rw number-is (code-kind budget (judgeAnswer mode g budget (length buffer)) (judged-bounded mode g budget (length buffer)) h k l)
 
   -- ---- exact
 
-  module _ (w : WellFormed g) (enough : pairCount (g .order) ≤ length buffer) where
+  module _ (taken : Taken mode g (length buffer)) where
     -- "cut" exactly where the budget is below the steps needed
-    pub told-cut : (codeIn (o .number) ≡ 2) ↔ (budget < stepsFor g)
+    pub told-cut : (codeIn (o .number) ≡ 2) ↔ (budget < stepsFor mode g)
     unfolding told without
     told-cut = (
-      λ e. exact-cut-only g budget (length buffer) w enough (kind-is 2 (omega arith) .0 e),
-      λ l. kind-is 2 (omega arith) .1 (ap (λ (a : Judged). told (a .verdict) .kind) (exact-cut g budget (length buffer) w enough l)),
+      λ e. exact-cut-only mode g budget (length buffer) taken (kind-is 2 (omega arith) .0 e),
+      λ l. kind-is 2 (omega arith) .1 (ap (λ (a : Judged). told (a .verdict) .kind) (exact-cut mode g budget (length buffer) taken l)),
     )
 
-    module _ (reach : stepsFor g ≤ budget) where
+    module _ (reach : stepsFor mode g ≤ budget) where
       -- else "smaller" exactly where there is a certificate
-      pub told-smaller : (codeIn (o .number) ≡ 1) ↔ ((p : List ℕ) × Certified g p)
-      told-smaller = Iff·trans (kind-is 1 (omega arith)) (exact-smaller g budget (length buffer) w enough reach)
+      pub told-smaller : (codeIn (o .number) ≡ 1) ↔ ((p : List ℕ) × Certified mode g p)
+      told-smaller = Iff·trans (kind-is 1 (omega arith)) (exact-smaller mode g budget (length buffer) taken reach)
 
       -- "none" exactly where there is none
-      pub told-none : (codeIn (o .number) ≡ 0) ↔ ((p : List ℕ) → ¬ Certified g p)
-      told-none = Iff·trans (kind-is 0 (omega arith)) (exact-none g budget (length buffer) w enough reach)
+      pub told-none : (codeIn (o .number) ≡ 0) ↔ ((p : List ℕ) → ¬ Certified mode g p)
+      told-none = Iff·trans (kind-is 0 (omega arith)) (exact-none mode g budget (length buffer) taken reach)
 
       -- and the steps are those needed
-      pub told-steps : lowIn (o .number) ≡ stepsFor g
+      pub told-steps : lowIn (o .number) ≡ stepsFor mode g
       told-steps =
           rw number-is
-          (packed-steps budget (judgeAnswer g budget (length buffer)) (judged-bounded g budget (length buffer)) h
-          (not-refused g budget (length buffer) w enough) ∙ exact-steps g budget (length buffer) w enough reach)
+          (packed-steps budget (judgeAnswer mode g budget (length buffer)) (judged-bounded mode g budget (length buffer)) h
+          (not-refused mode g budget (length buffer) taken) ∙ exact-steps mode g budget (length buffer) taken reach)
 
   -- of a fully drawn graph "none" says that no permitted renumbering of it comes earlier
-  pub none-is-smallest : WellFormed g → FullyDrawn g → codeIn (o .number) ≡ 0 → Smallest g
-  none-is-smallest w d e = none-tells g w d budget (length buffer) (kind-is 0 (omega arith) .0 e)
+  pub none-is-smallest : WellFormed g → FullyDrawn g → codeIn (o .number) ≡ 0 → Smallest mode g
+  none-is-smallest w d e = none-tells mode g w d budget (length buffer) (kind-is 0 (omega arith) .0 e)
 
   -- ---- sound
 
   -- the clause that it wrote is what judging writes
-  clause-is : clauseIn o ≡ written g budget buffer
+  clause-is : clauseIn o ≡ written mode g budget buffer
   clause-is =
-      rw (as-rows g budget buffer lent call)
-      (ap (λ (k : ℕ). take k (judgeBuffer g budget buffer)) (packed-literals budget (judgeAnswer g budget (length buffer)) (judged-bounded g budget (length buffer)) h))
+      rw (as-rows mode g budget buffer lent call)
+      (ap (λ (k : ℕ). take k (judgeBuffer mode g budget buffer)) (packed-literals budget (judgeAnswer mode g budget (length buffer)) (judged-bounded mode g budget (length buffer)) h))
 
   module _ (smaller : codeIn (o .number) ≡ 1) where
     -- the arrangement is the certificate
-    arrangement-is : o .arrangement ≡ judgeAnswer g budget (length buffer) .arrangement
+    arrangement-is : o .arrangement ≡ judgeAnswer mode g budget (length buffer) .arrangement
     arrangement-is =
-        ap (λ (x : Outcome). x .arrangement) (as-rows g budget buffer lent call)
-        ∙ arrangement-written (judgeAnswer g budget (length buffer)) lent (kind-is 1 (omega arith) .0 smaller)
+        ap (λ (x : Outcome). x .arrangement) (as-rows mode g budget buffer lent call)
+        ∙ arrangement-written (judgeAnswer mode g budget (length buffer)) lent (kind-is 1 (omega arith) .0 smaller)
 
     module _ (d : Graph) (full : FullGraph (g .order) (g .starts) d) (broken : BreaksClause (pairs (g .order)) (clauseIn o) (entryAt d)) where
       -- every full drawing that breaks the clause in the buffer has by the arrangement in its memory a permitted copy strictly earlier
-      pub broken-earlier : EarlierCopy d (o .arrangement)
-      broken-earlier = rw arrangement-is (written-sound g budget buffer (kind-is 1 (omega arith) .0 smaller) d full (rw clause-is at broken))
+      pub broken-earlier : EarlierCopy mode d (o .arrangement)
+      broken-earlier = rw arrangement-is (written-sound mode g budget buffer (kind-is 1 (omega arith) .0 smaller) d full (rw clause-is at broken))
 
       -- in the published order too
-      pub broken-published : LexLess (matrixWord (relabelled d (o .arrangement))) (matrixWord d)
-      broken-published = rw arrangement-is (written-published g budget buffer (kind-is 1 (omega arith) .0 smaller) d full (rw clause-is at broken))
+      pub broken-published : LexLess (wordIn mode (relabelled d (o .arrangement))) (wordIn mode d)
+      broken-published = rw arrangement-is (written-published mode g budget buffer (kind-is 1 (omega arith) .0 smaller) d full (rw clause-is at broken))
 
     -- so what has no permitted copy earlier survives every clause that is left in a buffer
-    pub smallest-kept : (d : Graph) → FullGraph (g .order) (g .starts) d → Smallest d → ¬ BreaksClause (pairs (g .order)) (clauseIn o) (entryAt d)
+    pub smallest-kept : (d : Graph) → FullGraph (g .order) (g .starts) d → Smallest mode d → ¬ BreaksClause (pairs (g .order)) (clauseIn o) (entryAt d)
     smallest-kept d full least broken = least (o .arrangement) (broken-earlier d full broken)
 
     -- no literal of the clause in the buffer can be dropped
-    pub told-needed : Each (Needs g (o .arrangement) (clauseIn o)) (clauseIn o)
-    told-needed = rw (arrangement-is, clause-is) (written-needed g budget buffer (kind-is 1 (omega arith) .0 smaller))
+    pub told-needed : Each (Needs mode g (o .arrangement) (clauseIn o)) (clauseIn o)
+    told-needed = rw (arrangement-is, clause-is) (written-needed mode g budget buffer (kind-is 1 (omega arith) .0 smaller))
 
   -- ---- nothing but "smaller" changes the caller's memory
 
   pub else-unchanged : codeIn (o .number) ≢ 1 → (o .literals ≡ buffer) × (o .arrangement ≡ lent)
   else-unchanged ne =
-      let other : told (judgeAnswer g budget (length buffer) .verdict) .kind ≢ 1 = λ e. ne (kind-is 1 (omega arith) .1 e) in
-      rw (as-rows g budget buffer lent call) (buffer-unchanged g budget buffer other, arrangement-unchanged (judgeAnswer g budget (length buffer)) lent other)
+      let other : told (judgeAnswer mode g budget (length buffer) .verdict) .kind ≢ 1 = λ e. ne (kind-is 1 (omega arith) .1 e) in
+      rw (as-rows mode g budget buffer lent call) (buffer-unchanged mode g budget buffer other, arrangement-unchanged (judgeAnswer mode g budget (length buffer)) lent other)
 
 -- ---- a record that is refused
 
 -- its refusal is told with its place, and the caller's memory is as it was
-pub refused-record : (s : List ℕ) (budget : ℕ) → budget < 2 ^ 32 → (buffer : List ℤ) (lent : List ℕ) → readAnswer s .refusal ≢ 0
-    → (codeIn (judgedRecord s budget buffer lent .number) ≡ 128 + readAnswer s .refusal) × (lowIn (judgedRecord s budget buffer lent .number) ≡ readAnswer s .place)
-    × (judgedRecord s budget buffer lent .literals ≡ buffer) × (judgedRecord s budget buffer lent .arrangement ≡ lent)
+pub refused-record : (mode : ℕ) (s : List ℕ) (budget : ℕ) → budget < 2 ^ 32 → (buffer : List ℤ) (lent : List ℕ) → readAnswer s .refusal ≢ 0
+    → (codeIn (judgedRecord mode s budget buffer lent .number) ≡ 128 + readAnswer s .refusal) × (lowIn (judgedRecord mode s budget buffer lent .number) ≡ readAnswer s .place)
+    × (judgedRecord mode s budget buffer lent .literals ≡ buffer) × (judgedRecord mode s budget buffer lent .arrangement ≡ lent)
 unfolding judgeRecordBuffer pick arrangedAfter arrangedBy told without
-refused-record s budget h buffer lent ne =
-    let a = record-refused s budget (length buffer) ne in
-    let b = record-bounded s budget (length buffer) in (
-      packed-refusal budget (judgeRecord s budget (length buffer)) b h (rw a refl) ∙ rw a refl,
-      packed-place budget (judgeRecord s budget (length buffer)) b h (rw a refl) ∙ rw a refl,
+refused-record mode s budget h buffer lent ne =
+    let a = record-refused mode s budget (length buffer) ne in
+    let b = record-bounded mode s budget (length buffer) in (
+      packed-refusal budget (judgeRecord mode s budget (length buffer)) b h (rw a refl) ∙ rw a refl,
+      packed-place budget (judgeRecord mode s budget (length buffer)) b h (rw a refl) ∙ rw a refl,
       rw (ne-eqb (readAnswer s .refusal) 0 ne) refl,
       rw a refl,
     )

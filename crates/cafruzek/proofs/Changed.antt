@@ -15,11 +15,11 @@ use Rattle.judging.proofs.Buffer.{buffer-unchanged}
 use Rattle.cafruzek.specs.Answers.{judgeRecord, judgeRecordBuffer}
 
 -- without "smaller" the literals are as they were
-pub record-unchanged : (s : List ℕ) (budget : ℕ) (buffer : List ℤ) → told (judgeRecord s budget (length buffer) .verdict) .kind ≢ 1 → judgeRecordBuffer s budget buffer ≡ buffer
+pub record-unchanged : (mode : ℕ) (s : List ℕ) (budget : ℕ) (buffer : List ℤ) → told (judgeRecord mode s budget (length buffer) .verdict) .kind ≢ 1 → judgeRecordBuffer mode s budget buffer ≡ buffer
 unfolding judgeRecord judgeRecordBuffer pick
-record-unchanged s budget buffer = go (eqb (readAnswer s .refusal) 0)
+record-unchanged mode s budget buffer = go (eqb (readAnswer s .refusal) 0)
   where
-    go : (t : Bool) → told (pick t (judgeAnswer (readAnswer s .graph) budget (length buffer)) (without (Refused (readAnswer s .refusal) (readAnswer s .place))) .verdict) .kind ≢ 1
-        → pick t (judgeBuffer (readAnswer s .graph) budget buffer) buffer ≡ buffer
-    go true ne = buffer-unchanged (readAnswer s .graph) budget buffer ne
+    go : (t : Bool) → told (pick t (judgeAnswer mode (readAnswer s .graph) budget (length buffer)) (without (Refused (readAnswer s .refusal) (readAnswer s .place))) .verdict) .kind ≢ 1
+        → pick t (judgeBuffer mode (readAnswer s .graph) budget buffer) buffer ≡ buffer
+    go true ne = buffer-unchanged mode (readAnswer s .graph) budget buffer ne
     go false ne = refl

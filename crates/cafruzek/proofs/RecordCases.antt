@@ -32,23 +32,23 @@ module _ (s : List ℕ) (r : Record) (is-r : r ≡ readAnswer s) where
   pub read-checked : r .refusal ≡ 0 → wellFormed (r .graph) ≡ true
   read-checked e = rw is-r (tested (readAnswer s .graph) (read-formed s (rw is-r at e)))
 
-  module _ (budget : ℕ) (buffer : List ℤ) (lent : List ℕ) where
+  module _ (mode budget : ℕ) (buffer : List ℤ) (lent : List ℕ) where
     -- ---- a refused reading
 
     module _ (ne : r .refusal ≡ 0 → ⊥) where
       -- is the answer
-      pub unread-packed : (x : ℕ) → x ≡ refusal (r .refusal) (r .place) → x ≡ packed (judgeRecord s budget (length buffer))
+      pub unread-packed : (x : ℕ) → x ≡ refusal (r .refusal) (r .place) → x ≡ packed (judgeRecord mode s budget (length buffer))
       unfolding judgeRecord pick without packed told codeTold lowTold refusal
       unread-packed x e =
           rw (e, ← is-r, ne-eqb (r .refusal) 0 ne)
 
       -- the literals are as they were
-      pub unread-buffer : buffer ≡ judgeRecordBuffer s budget buffer
+      pub unread-buffer : buffer ≡ judgeRecordBuffer mode s budget buffer
       unfolding judgeRecordBuffer pick
       unread-buffer = rw (← is-r, ne-eqb (r .refusal) 0 ne)
 
       -- and the arrangement too
-      pub unread-arranged : lent ≡ arrangedAfter (judgeRecord s budget (length buffer)) lent
+      pub unread-arranged : lent ≡ arrangedAfter (judgeRecord mode s budget (length buffer)) lent
       unfolding judgeRecord pick without arrangedAfter arrangedBy
       unread-arranged = rw (← is-r, ne-eqb (r .refusal) 0 ne)
 
@@ -56,22 +56,22 @@ module _ (s : List ℕ) (r : Record) (is-r : r ≡ readAnswer s) where
 
     module _ (e : r .refusal ≡ 0) where
       -- its clause is written
-      pub read-buffer : (after : List ℤ) → after ≡ judgeBuffer (r .graph) budget buffer → after ≡ judgeRecordBuffer s budget buffer
+      pub read-buffer : (after : List ℤ) → after ≡ judgeBuffer mode (r .graph) budget buffer → after ≡ judgeRecordBuffer mode s budget buffer
       unfolding judgeRecordBuffer pick
       read-buffer after q = rw (q, ← is-r, eq-eqb (r .refusal) 0 e)
 
-      module _ (a : Judged) (is-a : a ≡ judgeAnswer (r .graph) budget (length buffer)) where
+      module _ (a : Judged) (is-a : a ≡ judgeAnswer mode (r .graph) budget (length buffer)) where
         -- its answer is the answer
-        read-judged : a ≡ judgeRecord s budget (length buffer)
+        read-judged : a ≡ judgeRecord mode s budget (length buffer)
         unfolding judgeRecord pick
         read-judged = rw (is-a, ← is-r, eq-eqb (r .refusal) 0 e)
 
         -- which is told
-        pub read-packed : (x : ℕ) → x ≡ packed a → x ≡ packed (judgeRecord s budget (length buffer))
+        pub read-packed : (x : ℕ) → x ≡ packed a → x ≡ packed (judgeRecord mode s budget (length buffer))
         read-packed x q = rw read-judged at q
 
         -- with its certificate
-        pub read-arranged : (after : List ℕ) → after ≡ arrangedAfter a lent → after ≡ arrangedAfter (judgeRecord s budget (length buffer)) lent
+        pub read-arranged : (after : List ℕ) → after ≡ arrangedAfter a lent → after ≡ arrangedAfter (judgeRecord mode s budget (length buffer)) lent
         read-arranged after q = rw read-judged at q
 
 -- ---- numbers of bytes

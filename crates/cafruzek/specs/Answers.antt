@@ -14,17 +14,17 @@ use Rattle.packing.specs.Packing.{counted}
 
 -- ---- judging a record
 
--- judging the graph of the record at the start of the bytes; a refused reading is the answer
-unfoldable pub judgeRecord : List ℕ → ℕ → ℕ → Judged
-judgeRecord s budget room =
+-- judging the graph of the record at the start of the bytes in a mode; a refused reading is the answer, before the mode is looked at
+unfoldable pub judgeRecord : (mode : ℕ) → List ℕ → ℕ → ℕ → Judged
+judgeRecord mode s budget room =
     let r = readAnswer s in
-    pick (eqb (r .refusal) 0) (judgeAnswer (r .graph) budget room) (without (Refused (r .refusal) (r .place)))
+    pick (eqb (r .refusal) 0) (judgeAnswer mode (r .graph) budget room) (without (Refused (r .refusal) (r .place)))
 
 -- what the buffer of literals holds afterwards
-unfoldable pub judgeRecordBuffer : List ℕ → ℕ → List ℤ → List ℤ
-judgeRecordBuffer s budget buffer =
+unfoldable pub judgeRecordBuffer : (mode : ℕ) → List ℕ → ℕ → List ℤ → List ℤ
+judgeRecordBuffer mode s budget buffer =
     let r = readAnswer s in
-    pick (eqb (r .refusal) 0) (judgeBuffer (r .graph) budget buffer) buffer
+    pick (eqb (r .refusal) 0) (judgeBuffer mode (r .graph) budget buffer) buffer
 
 -- ---- numbers of bytes
 

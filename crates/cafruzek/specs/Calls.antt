@@ -18,21 +18,21 @@ pub record Outcome : Type 0 where
   pub arrangement : List ℕ
 
 -- of cafruzek_judge_rows, for the graph value that the rows make
-abbrev pub judgedRows : Graph → ℕ → List ℤ → List ℕ → Outcome
-judgedRows g budget buffer lent =
-    let a = judgeAnswer g budget (length buffer) in
-    record { number = packed a; literals = judgeBuffer g budget buffer; arrangement = arrangedAfter a lent }
+abbrev pub judgedRows : (mode : ℕ) → Graph → ℕ → List ℤ → List ℕ → Outcome
+judgedRows mode g budget buffer lent =
+    let a = judgeAnswer mode g budget (length buffer) in
+    record { number = packed a; literals = judgeBuffer mode g budget buffer; arrangement = arrangedAfter a lent }
 
 -- of cafruzek_judge_record
-abbrev pub judgedRecord : List ℕ → ℕ → List ℤ → List ℕ → Outcome
-judgedRecord s budget buffer lent =
-    let a = judgeRecord s budget (length buffer) in
-    record { number = packed a; literals = judgeRecordBuffer s budget buffer; arrangement = arrangedAfter a lent }
+abbrev pub judgedRecord : (mode : ℕ) → List ℕ → ℕ → List ℤ → List ℕ → Outcome
+judgedRecord mode s budget buffer lent =
+    let a = judgeRecord mode s budget (length buffer) in
+    record { number = packed a; literals = judgeRecordBuffer mode s budget buffer; arrangement = arrangedAfter a lent }
 
--- a call of either that judges the graph value g: by its rows, or by a record that is read as g
-pub data Judges (g : Graph) (budget : ℕ) (buffer : List ℤ) (lent : List ℕ) : Outcome → Type 0 where
-  by-rows : Judges g budget buffer lent (judgedRows g budget buffer lent)
-  by-record : (s : List ℕ) → readAnswer s .refusal ≡ 0 → readAnswer s .graph ≡ g → Judges g budget buffer lent (judgedRecord s budget buffer lent)
+-- a call of either that judges the graph value g in the mode: by its rows, or by a record that is read as g
+pub data Judges (mode : ℕ) (g : Graph) (budget : ℕ) (buffer : List ℤ) (lent : List ℕ) : Outcome → Type 0 where
+  by-rows : Judges mode g budget buffer lent (judgedRows mode g budget buffer lent)
+  by-record : (s : List ℕ) → readAnswer s .refusal ≡ 0 → readAnswer s .graph ≡ g → Judges mode g budget buffer lent (judgedRecord mode s budget buffer lent)
 
 -- the clause that it wrote: as many literals as the number tells, from the start of the buffer
 abbrev pub clauseIn : Outcome → List ℤ

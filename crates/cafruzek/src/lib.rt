@@ -16,17 +16,18 @@ ghost use Rattle.packing.specs.Telling.{arrangedAfter};
 ghost use Rattle.cafruzek.specs.Answers.{judgeRecord, judgeRecordBuffer, packedExtent, packedWritten};
 ghost use Rattle.graph.specs.Graph.{graphOf};
 
-// Judges the graph of the record that the bytes begin with; bytes after it are ignored. A reading that is refused is the
-// answer. "Smaller" writes the clause at the start of literals and the certificate to arrangement; no other answer changes
+// Judges the graph of the record that the bytes begin with, by rows in mode 1 and by columns in mode 2; bytes after it are
+// ignored. A reading that is refused is the answer. "Smaller" writes the clause at the start of literals and the certificate to arrangement; no other answer changes
 // anything.
 #[no_mangle]
 pub extern "C" fn cafruzek_judge_record<'a, 'b, 'c>(
     bytes: &'a [u8],
+    mode: u32,
     budget: u32,
     literals: &'b mut [i32],
     arrangement: &'c mut [u8; 32],
 ) -> u64
-    ensures { λ r. ⌜ (r ≡ packed (judgeRecord (now (bytes .entry)) budget (length (now (literals .entry))))) × (now (literals .exit) ≡ judgeRecordBuffer (now (bytes .entry)) budget (now (literals .entry))) × (now (arrangement .exit) ≡ arrangedAfter (judgeRecord (now (bytes .entry)) budget (length (now (literals .entry)))) (now (arrangement .entry))) ⌝ }
+    ensures { λ r. ⌜ (r ≡ packed (judgeRecord mode (now (bytes .entry)) budget (length (now (literals .entry))))) × (now (literals .exit) ≡ judgeRecordBuffer mode (now (bytes .entry)) budget (now (literals .entry))) × (now (arrangement .exit) ≡ arrangedAfter (judgeRecord mode (now (bytes .entry)) budget (length (now (literals .entry)))) (now (arrangement .entry))) ⌝ }
 {
     let found = reading::read(bytes);
     if found.refusal != 0 {
@@ -38,6 +39,7 @@ pub extern "C" fn cafruzek_judge_record<'a, 'b, 'c>(
         &graph.edges,
         &graph.unknowns,
         graph.starts,
+        mode,
         budget,
         literals,
     );
@@ -51,13 +53,14 @@ pub extern "C" fn cafruzek_judge_rows<'a, 'b, 'c>(
     edges: &'a [u32; 32],
     unknowns: &'a [u32; 32],
     starts: u32,
+    mode: u32,
     budget: u32,
     literals: &'b mut [i32],
     arrangement: &'c mut [u8; 32],
 ) -> u64
-    ensures { λ r. ⌜ (r ≡ packed (judgeAnswer (graphOf order (now (edges .entry)) (now (unknowns .entry)) starts) budget (length (now (literals .entry))))) × (now (literals .exit) ≡ judgeBuffer (graphOf order (now (edges .entry)) (now (unknowns .entry)) starts) budget (now (literals .entry))) × (now (arrangement .exit) ≡ arrangedAfter (judgeAnswer (graphOf order (now (edges .entry)) (now (unknowns .entry)) starts) budget (length (now (literals .entry)))) (now (arrangement .entry))) ⌝ }
+    ensures { λ r. ⌜ (r ≡ packed (judgeAnswer mode (graphOf order (now (edges .entry)) (now (unknowns .entry)) starts) budget (length (now (literals .entry))))) × (now (literals .exit) ≡ judgeBuffer mode (graphOf order (now (edges .entry)) (now (unknowns .entry)) starts) budget (now (literals .entry))) × (now (arrangement .exit) ≡ arrangedAfter (judgeAnswer mode (graphOf order (now (edges .entry)) (now (unknowns .entry)) starts) budget (length (now (literals .entry)))) (now (arrangement .entry))) ⌝ }
 {
-    let answer = judge_rows(order, edges, unknowns, starts, budget, literals);
+    let answer = judge_rows(order, edges, unknowns, starts, mode, budget, literals);
     tell(answer, arrangement)
 }
 

@@ -3,6 +3,7 @@ use Prim.Native.Nat.{ℕ, suc, _+_, _-_, _^_, _≤_, _<_}
 use native.Mathlib.Nat.{lt-of-lt-of-le}
 use native.Mathlib.Omega.{arith}
 use mathlib.Core.Path.{_≡_, refl, sym, ap, ap₂, subst, _∙_}
+use mathlib.Core.Logic.{_≢_}
 use mathlib.Core.List.{List, [], _++_}
 use lib.ListN.{length, getD, take, drop, length-take, take-append-drop}
 use lib.Pow.{pow-mono}
@@ -17,13 +18,15 @@ use Rattle.graph.specs.declared.Graph.{Graph}
 use Rattle.graph.specs.WellFormed.{WellFormed}
 use Rattle.arrangements.specs.Arrangement.{at, Permitted}
 use Rattle.composing.specs.Composed.{inverse}
-use Rattle.pairs.specs.Pairs.{Pair, pair, pairs}
+use Rattle.pairs.specs.Pairs.{Pair, pair}
+use Rattle.plain.specs.Plain.{comparedIn}
+use Rattle.plain.specs.Before.{beforeIn}
 use Rattle.dropped.proofs.Winning.{inverse-places}
-use Rattle.trials.specs.After.{fromPair}
-use Rattle.trials.proofs.Pairs.{from-first, from-here, from-down, from-last}
 use Rattle.stops.specs.Used.{usedMask}
 use Rattle.judging.specs.Judging.{walkAll}
 use Rattle.turns.specs.Turns.{turnAt, firstPair}
+use Rattle.turns.specs.Next.{pairsAfter, startingAt, PairOrNone}
+use Rattle.turns.proofs.NextLaws.{compared-first, compared-none, starting-here, starting-none}
 use Rattle.turns.proofs.Walks.{winning-first}
 use Rattle.stops.proofs.UsedLaws.{used-more, used-below}
 
@@ -69,34 +72,38 @@ used-done path i depth used e a c = let q : i ≡ depth = omega arith in e ∙ a
 
 -- ---- the first pair that does not go on
 
-module _ (t : Pair → ℕ) (n i j : ℕ) (whole : Pair) (left : firstPair t (fromPair n i j) ≡ whole) where
-  onward : (c : ℕ) → j ≤ n → c ≡ t (pair i j) → c ≡ 0 → firstPair t (fromPair n i (j + 1)) ≡ whole
-  unfolding firstPair pick
-  onward c h e z = (rw (from-here n i j h, eq-eqb (t (pair i j)) 0 (sym e ∙ z)) at left)
+module _ (t : Pair → ℕ) (after : Pair → List Pair) (i j : ℕ) (whole : Pair) (left : firstPair t (startingAt after (pair i j)) ≡ whole) where
+  module _ (some : i ≢ 0) (c : ℕ) (e : c ≡ t (pair i j)) where
+    -- the next one where the pair goes on
+    pub first-along : (row column : ℕ) → c ≡ 0 → after (pair i j) ≡ startingAt after (pair row column) → firstPair t (startingAt after (pair row column)) ≡ whole
+    unfolding firstPair pick
+    first-along row column z next = rw (starting-here after i j some, eq-eqb (t (pair i j)) 0 (sym e ∙ z), next) at left
 
-  pub first-along : (c : ℕ) → j < n → c ≡ t (pair i j) → c ≡ 0 → firstPair t (fromPair n i (j + 1)) ≡ whole
-  first-along c h e z = onward c (omega arith) e z
+    -- the pair itself where it does not
+    pub first-here : c ≢ 0 → pair i j ≡ whole
+    unfolding firstPair pick
+    first-here d = rw (starting-here after i j some, ne-eqb (t (pair i j)) 0 (λ z. d (e ∙ z))) at left
 
-  pub first-down : (c : ℕ) → i < n → j ≤ n + (i + 1 - n) → n ≤ j → c ≡ t (pair i j) → c ≡ 0 → firstPair t (fromPair n (i + 1) (i + 1 + 1)) ≡ whole
-  first-down c h k l e z =
-      let q : j ≡ n = omega arith in
-      ap (firstPair t) (sym (from-down n i h)) ∙ ap (λ (m : ℕ). firstPair t (fromPair n i (m + 1))) (sym q) ∙ onward c (omega arith) e z
-
-  pub first-here : (c : ℕ) → i < n → j ≤ n + (i + 1 - n) → c ≡ t (pair i j) → (c ≡ 0 → ⊥) → pair i j ≡ whole
-  unfolding firstPair pick
-  first-here c h k e z = rw (from-here n i j (omega arith), ne-eqb (t (pair i j)) 0 (λ q. z (e ∙ q))) at left
-
-  pub first-none : i ≤ n → n ≤ i → i < j → pair 0 0 ≡ whole
+  -- none where no pair is left
+  pub first-over : i ≡ 0 → pair 0 0 ≡ whole
   unfolding firstPair
-  first-none h k l = let q : i ≡ n = omega arith in rw (ap (λ (m : ℕ). fromPair n m j) q ∙ from-last n j (omega arith)) at left
+  first-over none = rw (starting-none after i j none) at left
 
-pub first-starts : (t : Pair → ℕ) (n : ℕ) → 1 ≤ n → firstPair t (fromPair n 1 2) ≡ firstPair t (pairs n)
-first-starts t n l = ap (firstPair t) (from-first n l)
+module _ (t : Pair → ℕ) (mode n : ℕ) where
+  pub first-begins : 2 ≤ n → firstPair t (startingAt (pairsAfter mode n) (pair 1 2)) ≡ firstPair t (comparedIn mode n)
+  first-begins two = ap (firstPair t) (starting-here (pairsAfter mode n) 1 2 (λ z. omega arith) ∙ sym (compared-first mode n two))
+
+  pub first-none : n < 2 → pair 0 0 ≡ firstPair t (comparedIn mode n)
+  unfolding firstPair
+  first-none few = rw (compared-none mode n few)
+
+pub first-pair : (n : ℕ) → 2 ≤ n → PairOrNone n 1 2
+first-pair n two = record { between = λ d. omega arith }
 
 -- ---- where a certificate wins
 
 -- the pair that is found is that at which the walk is won
-pub wins-there : (g : Graph) → WellFormed g → (p q : List ℕ) → Permitted (g .order) (g .starts) p → q ≡ inverse (g .order) p → (k : Pair) → walkAll g p ≡ won k → (row column : ℕ)
-    → pair row column ≡ firstPair (turnAt (g .edges) (g .unknowns) p q) (pairs (g .order)) → walkAll g p ≡ won (pair row column)
-wins-there g w p q a e k wins row column f =
-    wins ∙ ap won (sym (f ∙ winning-first g w p q (inverse-places (g .order) (g .starts) p q (w .order-high) a e) k wins))
+pub wins-there : (mode : ℕ) (g : Graph) → WellFormed g → (p q : List ℕ) → Permitted (g .order) (g .starts) p → q ≡ inverse (g .order) p → (k : Pair) → walkAll mode g p ≡ won k
+    → (row column : ℕ) → pair row column ≡ firstPair (turnAt (beforeIn mode) (g .edges) (g .unknowns) p q) (comparedIn mode (g .order)) → walkAll mode g p ≡ won (pair row column)
+wins-there mode g w p q a e k wins row column f =
+    wins ∙ ap won (sym (f ∙ winning-first g w p q (inverse-places (g .order) (g .starts) p q (w .order-high) a e) mode k wins))

@@ -6,11 +6,15 @@ ghost use Rattle.beginnings.specs.Beginning.{Beginning};
 ghost use Rattle.beginnings.specs.Certificate.{completed};
 ghost use Rattle.words.specs.Placed.{placed};
 ghost use Rattle.rows.specs.Rows.{blockOf};
-ghost use Rattle.pairs.specs.Pairs.{pair, pairs};
+ghost use Rattle.pairs.specs.Pairs.{pair};
+ghost use Rattle.plain.specs.Plain.{comparedIn};
+ghost use Rattle.plain.specs.Before.{beforeIn};
 ghost use Rattle.judging.specs.Judging.{padded};
 ghost use Rattle.stops.specs.Used.{usedMask};
 ghost use Rattle.exploring.specs.Masks.{blockMask};
 ghost use Rattle.turns.specs.Turns.{turnAt, firstPair, Places};
+use turns::next::Spot;
+use turns::next::next_pair;
 use turns::path::stored;
 use turns::path::weight_of;
 use turns::walked::pair_turn;
@@ -53,35 +57,30 @@ pub fn complete<'a, 'b>(
     }
 }
 
-pub struct Spot {
-    pub row: u32,
-    pub column: u32,
-}
-
 // The winning pair of a path whose walk is won: the first that does not go on. Where each goes on, (0, 0).
 pub fn winning<'a>(
     edges: &'a [u32; 32],
     unknowns: &'a [u32; 32],
     path: &'a [u8; 32],
     places: &'a [u8; 32],
+    mode: u32,
     n: u32,
 ) -> Spot
-    requires { ⌜ (1 ≤ n) × (n ≤ 32) × Places n (now path) (now places) ⌝ }
-    ensures { λ r. ⌜ pair (r .row) (r .column) ≡ firstPair (turnAt (now (edges .entry)) (now (unknowns .entry)) (now (path .entry)) (now (places .entry))) (pairs n) ⌝ }
+    requires { ⌜ (n ≤ 32) × Places n (now path) (now places) ⌝ }
+    ensures { λ r. ⌜ pair (r .row) (r .column) ≡ firstPair (turnAt (beforeIn mode) (now (edges .entry)) (now (unknowns .entry)) (now (path .entry)) (now (places .entry))) (comparedIn mode n) ⌝ }
 {
+    if n < 2 {
+        return Spot { row: 0, column: 0 };
+    }
     let mut i = 1;
     let mut j = 2;
-    while i < n {
-        if pair_turn(edges, unknowns, path, places, n, i, j) == 0 {
-            if j < n {
-                j += 1;
-            } else {
-                i += 1;
-                j = i + 1;
-            }
-        } else {
+    while i != 0 {
+        if pair_turn(mode, edges, unknowns, path, places, n, i, j) != 0 {
             return Spot { row: i, column: j };
         }
+        let next = next_pair(mode, n, i, j);
+        i = next.row;
+        j = next.column;
     }
     Spot { row: 0, column: 0 }
 }

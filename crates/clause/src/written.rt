@@ -9,15 +9,15 @@ ghost use Rattle.arrangements.specs.Arrangement.{Reordering, isReordering, isPe
 ghost use Rattle.composing.specs.Composed.{inverse};
 ghost use Rattle.graph.specs.WellFormed.{wellFormed};
 ghost use Rattle.pairs.specs.Pairs.{pair, pairs, pairCount, number, alongRow};
+ghost use Rattle.plain.specs.Before.{beforeIn};
 ghost use Rattle.judging.specs.Judging.{walkAll, clauseOf};
 ghost use Rattle.graph.specs.Graph.{graphOf};
 ghost use Rattle.clause.specs.Clauses.{writtenFor, writtenAlong, Wrote};
 ghost use Rattle.kinds.specs.Kinds.{kindAt, Ahead};
-use dropped::image_goes;
-use dropped::limit_of;
-use dropped::pair_goes;
+use dropped::what_goes;
 use kinds::columns::columns_of;
-use kinds::columns::first_places;
+use kinds::columns::masks_of;
+use kinds::kind::Without;
 use kinds::kind::kind_at;
 use pairs::number_of;
 use words::lowest;
@@ -44,17 +44,18 @@ fn write_row<'a, 'b>(
     edges: &'a [u32; 32],
     unknowns: &'a [u32; 32],
     places: &'a [u8; 32],
+    mode: u32,
     n: u32,
     row: u32,
-    here: u32,
-    source: u32,
+    column: u32,
+    without: Without,
     i: u32,
     columns: u32,
     count: usize,
     literals: &'b mut [i32],
 ) -> usize
-    requires { ⌜ (n ≤ 32) × (isReordering n (now places) ≡ true) × (1 ≤ row) × (1 ≤ here) × (1 ≤ source) × (1 ≤ i) × (i < n) × (count < number n i (i + 1)) × (pairCount n ≤ length (now literals)) × (columns < 2 ^ (n + 1 - (i + 1))) × Ahead (kindAt (now edges) (now unknowns) (now places) (pair row here) (pair row source)) n i (i + 1) columns ⌝ }
-    ensures { λ r. ⌜ Wrote (writtenAlong (kindAt (now (edges .entry)) (now (unknowns .entry)) (now (places .entry)) (pair row here) (pair row source)) (number n i (i + 1) - 1) (alongRow i (i + 1) (n + 1 - (i + 1)))) (now (literals .entry)) count (now (literals .exit)) r ⌝ }
+    requires { ⌜ (n ≤ 32) × (isReordering n (now places) ≡ true) × (1 ≤ row) × (1 ≤ column) × (1 ≤ i) × (i < n) × (count < number n i (i + 1)) × (pairCount n ≤ length (now literals)) × (columns < 2 ^ (n + 1 - (i + 1))) × Ahead (kindAt (beforeIn mode) (now edges) (now unknowns) (now places) (pair row column) (without .pair) (without .image)) n i (i + 1) columns ⌝ }
+    ensures { λ r. ⌜ Wrote (writtenAlong (kindAt (beforeIn mode) (now (edges .entry)) (now (unknowns .entry)) (now (places .entry)) (pair row column) (without .pair) (without .image)) (number n i (i + 1) - 1) (alongRow i (i + 1) (n + 1 - (i + 1)))) (now (literals .entry)) count (now (literals .exit)) r ⌝ }
 {
     let mut left = columns;
     let mut j = i + 1;
@@ -64,7 +65,7 @@ fn write_row<'a, 'b>(
         let k = lowest(left);
         j += k;
         m += k;
-        let kind = kind_at(edges, unknowns, places, n, row, here, source, i, j);
+        let kind = kind_at(edges, unknowns, places, mode, n, row, column, without, i, j);
         written = put(literals, written, m, kind);
         left = (left >> k) >> 1;
         j += 1;
@@ -79,31 +80,30 @@ fn write_pairs<'a, 'b>(
     unknowns: &'a [u32; 32],
     path: &'a [u8; 32],
     places: &'a [u8; 32],
+    mode: u32,
     n: u32,
     row: u32,
     column: u32,
-    here: u32,
-    source: u32,
+    without: Without,
     literals: &'b mut [i32],
 ) -> usize
-    requires { ⌜ (n ≤ 32) × Reordering n (now path) × (now places ≡ inverse n (now path)) × (1 ≤ row) × (row < column) × (column ≤ n) × (1 ≤ here) × (here ≤ column) × (1 ≤ source) × (source ≤ column) × (pairCount n ≤ length (now literals)) ⌝ }
-    ensures { λ r. ⌜ Wrote (writtenAlong (kindAt (now (edges .entry)) (now (unknowns .entry)) (now (places .entry)) (pair row here) (pair row source)) 0 (pairs n)) (now (literals .entry)) 0 (now (literals .exit)) r ⌝ }
+    requires { ⌜ (n ≤ 32) × Reordering n (now path) × (now places ≡ inverse n (now path)) × (1 ≤ row) × (row < column) × (column ≤ n) × (pairCount n ≤ length (now literals)) ⌝ }
+    ensures { λ r. ⌜ Wrote (writtenAlong (kindAt (beforeIn mode) (now (edges .entry)) (now (unknowns .entry)) (now (places .entry)) (pair row column) (without .pair) (without .image)) 0 (pairs n)) (now (literals .entry)) 0 (now (literals .exit)) r ⌝ }
 {
-    let before = first_places(path, row - 1);
-    let at = first_places(path, row);
-    let up = first_places(path, column);
+    let masks = masks_of(path, mode, n, row, column);
     let mut i = 1;
     let mut count = 0;
     while i < n {
-        let columns = columns_of(edges, unknowns, places, n, row, column, before, at, up, i);
+        let columns = columns_of(edges, unknowns, places, mode, n, row, column, masks, i);
         count = write_row(
             edges,
             unknowns,
             places,
+            mode,
             n,
             row,
-            here,
-            source,
+            column,
+            without,
             i,
             columns,
             count,
@@ -122,29 +122,27 @@ pub fn write_clause<'a, 'b>(
     unknowns: &'a [u32; 32],
     path: &'a [u8; 32],
     places: &'a [u8; 32],
+    mode: u32,
     n: u32,
     starts: u32,
     row: u32,
     column: u32,
     literals: &'b mut [i32],
 ) -> usize
-    requires { ⌜ (wellFormed (graphOf n (now edges) (now unknowns) starts) ≡ true) × (isPermitted n starts (now path) ≡ true) × (now places ≡ inverse n (now path)) × (walkAll (graphOf n (now edges) (now unknowns) starts) (now path) ≡ won (pair row column)) × (pairCount n ≤ length (now literals)) ⌝ }
-    ensures { λ r. ⌜ (r ≡ length (clauseOf (graphOf n (now (edges .entry)) (now (unknowns .entry)) starts) (now (path .entry)))) × (now (literals .exit) ≡ clauseOf (graphOf n (now (edges .entry)) (now (unknowns .entry)) starts) (now (path .entry)) ++ drop (length (clauseOf (graphOf n (now (edges .entry)) (now (unknowns .entry)) starts) (now (path .entry)))) (now (literals .entry))) ⌝ }
+    requires { ⌜ (wellFormed (graphOf n (now edges) (now unknowns) starts) ≡ true) × (isPermitted n starts (now path) ≡ true) × (now places ≡ inverse n (now path)) × (walkAll mode (graphOf n (now edges) (now unknowns) starts) (now path) ≡ won (pair row column)) × (pairCount n ≤ length (now literals)) ⌝ }
+    ensures { λ r. ⌜ (r ≡ length (clauseOf mode (graphOf n (now (edges .entry)) (now (unknowns .entry)) starts) (now (path .entry)))) × (now (literals .exit) ≡ clauseOf mode (graphOf n (now (edges .entry)) (now (unknowns .entry)) starts) (now (path .entry)) ++ drop (length (clauseOf mode (graphOf n (now (edges .entry)) (now (unknowns .entry)) starts) (now (path .entry)))) (now (literals .entry))) ⌝ }
 {
-    let image = image_goes(edges, unknowns, path, places, n, starts, row, column);
-    let pair = pair_goes(edges, unknowns, path, places, n, starts, row, column, image);
-    let here = limit_of(column, pair);
-    let source = limit_of(column, image);
+    let gone = what_goes(edges, unknowns, path, places, mode, n, starts, row, column);
     write_pairs(
         edges,
         unknowns,
         path,
         places,
+        mode,
         n,
         row,
         column,
-        here,
-        source,
+        gone,
         literals,
     )
 }

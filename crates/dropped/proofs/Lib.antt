@@ -1,5 +1,5 @@
-pub mod RowsTurned
-pub mod Limits
+pub mod ModeTurned
+pub mod KindsStay
 pub mod Winning
 pub mod Trying
 pub mod CodeDropped

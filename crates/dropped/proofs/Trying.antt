@@ -1,5 +1,5 @@
 -- The walk on after the winning pair, by numbers, tells what can be dropped there.
-use Prim.Native.Nat.{ℕ, _≤_, _<_}
+use Prim.Native.Nat.{ℕ, _≤_}
 use native.Mathlib.Omega.{arith}
 use native.Mathlib.Decide.{ℕ-discrete}
 use mathlib.Core.Path.{_≡_, refl, sym, ap, ap₂, _∙_}
@@ -12,33 +12,31 @@ use Rattle.laws.specs.Each.{Each, each-first, each-rest}
 use Rattle.laws.specs.ListLaws.{mem-split}
 use Rattle.laws.specs.Test.{both, pick}
 use Rattle.laws.specs.TestLaws.{fails, holds-or-fails, same-test, both-after, first-fails, pick-true, pick-false}
-use Rattle.walk.specs.Walk.{won}
 use Rattle.walk.specs.Earlier.{Earlier, copy}
 use Rattle.walk.proofs.Order.{earlier-here, earlier-later, earlier-cases, earlier-none}
 use Rattle.walk.proofs.Put.{one-or-two}
-use Rattle.needed.specs.Settled.{Turned, WonWalk, settled, stays, staying, winsBy, imageGoes, pairGoes}
+use Rattle.needed.specs.Settled.{Turned, WonWalk, upTo, settled, stays, staying, winsBy}
+use Rattle.needed.specs.Settled
 use Rattle.needed.proofs.Settled.{settled-full, not-itself}
 use Rattle.needed.proofs.After.{late-counts, early-counts, first-counts, last-counts, image-trial, pair-trial}
-use Rattle.plain.specs.Plain.{samePair, image}
-use Rattle.plain.specs.Before.{rowBefore}
+use Rattle.plain.specs.Plain.{samePair, image, comparedIn}
+use Rattle.plain.specs.Before.{beforeIn}
 use Rattle.plain.proofs.Plain.{samePair-tells}
 use Rattle.graph.specs.declared.Graph.{Graph}
 use Rattle.graph.specs.Counts.{entryAt}
-use Rattle.graph.specs.WellFormed.{WellFormed}
 use Rattle.rows.specs.Rows.{entryIn}
-use Rattle.arrangements.specs.Arrangement.{at, Reordering}
-use Rattle.composing.specs.Composed.{inverse}
-use Rattle.pairs.specs.Pairs.{Pair, pair, pairs}
-use Rattle.pairs.proofs.PairLaws.{pairs-given, pairs-has}
-use Rattle.judging.specs.Judging.{walkAll}
+use Rattle.arrangements.specs.Arrangement.{at}
+use Rattle.pairs.specs.Pairs.{Pair}
 use Rattle.judging.proofs.Arrangements.{entry-of-two}
 use Rattle.turns.specs.Turns.{turnBy, walkCode}
-use Rattle.kinds.specs.Kinds.{reached, kindAt}
+use Rattle.turns.specs.Next.{pairsAfter}
+use Rattle.turns.proofs.NextLaws.{compared-split}
+use Rattle.kinds.specs.Kinds.{kindAt}
 use Rattle.trials.specs.After.{countAfter, turnAfter}
 use Rattle.trials.proofs.CodeAfter.{gap-passes}
-use Rattle.dropped.specs.Limit.{limit}
-use Rattle.dropped.proofs.Limits.{reached-limit, kind-none}
-use Rattle.dropped.proofs.Winning.{won-walk, winning-is, source-is}
+use Rattle.dropped.specs.Dropping.{WinsAt, imageMay, pairMay}
+use Rattle.dropped.proofs.KindsStay.{kind-none}
+use Rattle.dropped.proofs.Winning.{well-formed, turned, won-walk, winning-is, winning-listed}
 
 -- ---- a walk over a full drawing, by numbers
 
@@ -106,158 +104,132 @@ won-earlier x img t (k ∷ ks) full h =
 
 -- ---- after the winning pair
 
-module _ (g : Graph) (formed : WellFormed g) (p : List ℕ) (high : g .order ≤ 32) (r : Reordering (g .order) p) (row column : ℕ) (wins : walkAll g p ≡ won (pair row column)) where
-  abbrev n : ℕ
-  n = g .order
+module _ {mode : ℕ} {g : Graph} {p q : List ℕ} {w : Pair} (won-at : WinsAt mode g p q w) where
+  abbrev before : Pair → Pair → Bool
+  before = beforeIn mode
 
-  abbrev q : List ℕ
-  q = inverse (g .order) p
-
-  abbrev w : Pair
-  w = pair row column
+  abbrev ks : List Pair
+  ks = comparedIn mode (g .order)
 
   -- its walk, and the pairs under it
-  c : WonWalk samePair rowBefore (image p) (image (inverse (g .order) p)) (pairs (g .order)) (entryAt g) (pair row column)
-  c = won-walk g p high r row column wins
+  abbrev c : WonWalk samePair (beforeIn mode) (image p) (image q) (comparedIn mode (g .order)) (entryAt g) w
+  c = won-walk won-at
 
-  t : Turned samePair rowBefore (image p) (image (inverse (g .order) p)) (pairs (g .order))
-  t = c .turned
+  abbrev t : Turned samePair (beforeIn mode) (image p) (image q) (comparedIn mode (g .order))
+  t = turned won-at
 
-  low : 1 ≤ row
-  low = winning-is g p high r row column wins .from-low
-
-  rising : row < column
-  rising = winning-is g p high r row column wins .rising
-
+  -- where what stands at w is left out, or at its image
   module _ (a b : Bool) where
     abbrev x : Pair → ℕ
-    x = settled rowBefore (image (inverse (g .order) p)) (staying rowBefore (image (inverse (g .order) p)) (entryAt g) (pair row column) a b)
+    x = settled before (image q) (staying before (image q) (entryAt g) w a b)
 
     abbrev turn : Pair → ℕ
-    turn = turnAfter (g .edges) (g .unknowns) p (inverse (g .order) p) (pair row (limit a column)) (pair row (limit b column))
+    turn = turnAfter before (g .edges) (g .unknowns) p q w a b
 
     -- what the code reads at the image is the graph's entry there
     entry-there : (k : Pair) → entryIn (g .edges) (g .unknowns) (at p (k .row)) (at p (k .column)) ≡ entryAt g (image p k)
-    entry-there k = sym (entry-of-two g formed (at p (k .row)) (at p (k .column)))
+    entry-there k = sym (entry-of-two g (well-formed won-at) (at p (k .row)) (at p (k .column)))
 
-    module _ (k : Pair) (m : List·Memᴰ k (pairs (g .order))) (later : rowBefore (pair row column) k ≡ true) where
-      abbrev src : Pair
-      src = image (inverse (g .order) p) k
-
-      here-is : countAfter 0 (entryAt g k) (rowBefore src k) (reached (pair row (limit b column)) src) ≡ x k
+    module _ (k : Pair) (m : List·Memᴰ k ks) (later : before w k ≡ true) where
+      here-is : countAfter 0 (entryAt g k) (before (image q k) k) (upTo before b w (image q k)) ≡ x k
       unfolding countAfter
-      here-is = at (holds-or-fails (rowBefore src k))
+      here-is = at (holds-or-fails (before (image q k) k))
         where
-          at : (rowBefore src k ≡ true) ⊎ (rowBefore src k ≡ false) → pick (rowBefore src k) (pick (both (eqb (entryAt g k) 0) (reached (pair row (limit b column)) src)) 0 1) 0 ≡ x k
-          at (inl e) =
-              pick-true (rowBefore src k) _ _ e
-              ∙ ap (λ (s : Bool). pick (both (eqb (entryAt g k) 0) s) 0 1) (reached-limit b row column n low rising src (source-is g p high r row column wins k m))
-              ∙ sym (late-counts c a b k m later e)
-          at (inr e) = pick-false (rowBefore src k) _ _ e ∙ sym (early-counts c a b k m later e)
+          at : (before (image q k) k ≡ true) ⊎ (before (image q k) k ≡ false) → pick (before (image q k) k) (pick (both (eqb (entryAt g k) 0) (upTo before b w (image q k))) 0 1) 0 ≡ x k
+          at (inl e) = pick-true (before (image q k) k) _ _ e ∙ sym (late-counts c a b k m later e)
+          at (inr e) = pick-false (before (image q k) k) _ _ e ∙ sym (early-counts c a b k m later e)
 
-      there-is : image p k ≢ k → countAfter 1 (entryAt g (image p k)) (rowBefore (image p k) k) (reached (pair row (limit a column)) (image p k)) ≡ x (image p k)
+      there-is : image p k ≢ k → countAfter 1 (entryAt g (image p k)) (before (image p k) k) (upTo before a w (image p k)) ≡ x (image p k)
       unfolding countAfter
-      there-is moved = at (holds-or-fails (rowBefore (image p k) k))
+      there-is moved = at (holds-or-fails (before (image p k) k))
         where
-          at : (rowBefore (image p k) k ≡ true) ⊎ (rowBefore (image p k) k ≡ false)
-              → pick (rowBefore (image p k) k) (pick (both (eqb (entryAt g (image p k)) 1) (reached (pair row (limit a column)) (image p k))) 1 0) 1 ≡ x (image p k)
-          at (inl e) =
-              pick-true (rowBefore (image p k) k) _ _ e
-              ∙ ap (λ (s : Bool). pick (both (eqb (entryAt g (image p k)) 1) s) 1 0) (reached-limit a row column n low rising (image p k) (pairs-given n (image p k) (t .image-in k m)))
-              ∙ sym (first-counts c a b k m later moved e)
-          at (inr e) = pick-false (rowBefore (image p k) k) _ _ e ∙ sym (last-counts c a b k m later moved e)
+          at : (before (image p k) k ≡ true) ⊎ (before (image p k) k ≡ false)
+              → pick (before (image p k) k) (pick (both (eqb (entryAt g (image p k)) 1) (upTo before a w (image p k))) 1 0) 1 ≡ x (image p k)
+          at (inl e) = pick-true (before (image p k) k) _ _ e ∙ sym (first-counts c a b k m later moved e)
+          at (inr e) = pick-false (before (image p k) k) _ _ e ∙ sym (last-counts c a b k m later moved e)
 
-      turn-is : turn k ≡ turnBy (x k) (x (image p k)) (samePair (image p k) k)
+      -- what a pair does by its own count and that of its image
+      abbrev by-counts : ℕ → ℕ → ℕ
+      by-counts i j = turnBy i j (samePair (image p k) k)
+
+      abbrev here : ℕ
+      here = countAfter 0 (entryAt g k) (before (image q k) k) (upTo before b w (image q k))
+
+      turn-is : turn k ≡ by-counts (x k) (x (image p k))
       unfolding turnAfter turnBy pick
-      turn-is = ap (λ (c : ℕ). turnBy (countAfter 0 (entryAt g k) (rowBefore src k) (reached (pair row (limit b column)) src)) (countAfter 1 c (rowBefore (image p k) k) (reached (pair row (limit a column)) (image p k))) (samePair (image p k) k)) (entry-there k)
-          ∙ at (one-or-two samePair-tells (image p k) k)
+      turn-is = ap (λ (d : ℕ). by-counts here (countAfter 1 d (before (image p k) k) (upTo before a w (image p k)))) (entry-there k) ∙ at (one-or-two samePair-tells (image p k) k)
         where
-          at : (image p k ≡ k) ⊎ (image p k ≢ k)
-              → turnBy (countAfter 0 (entryAt g k) (rowBefore src k) (reached (pair row (limit b column)) src)) (countAfter 1 (entryAt g (image p k)) (rowBefore (image p k) k) (reached (pair row (limit a column)) (image p k))) (samePair (image p k) k)
-              ≡ turnBy (x k) (x (image p k)) (samePair (image p k) k)
-          at (inr moved) = ap₂ (λ (i j : ℕ). turnBy i j (samePair (image p k) k)) here-is (there-is moved)
+          at : (image p k ≡ k) ⊎ (image p k ≢ k) → by-counts here (countAfter 1 (entryAt g (image p k)) (before (image p k) k) (upTo before a w (image p k))) ≡ by-counts (x k) (x (image p k))
+          at (inr moved) = ap₂ by-counts here-is (there-is moved)
           at (inl e) =
-              let back : src ≡ k = ap (image q) (sym e) ∙ t .source-image k m in
-              let gap : x k ≡ 0 = early-counts c a b k m later (ap (λ (j : Pair). rowBefore j k) back ∙ not-itself t k m) in
+              let back : image q k ≡ k = ap (image q) (sym e) ∙ t .source-image k m in
+              let gap : x k ≡ 0 = early-counts c a b k m later (ap (λ (j : Pair). before j k) back ∙ not-itself t k m) in
               let own : samePair (image p k) k ≡ true = ap (λ (j : Pair). samePair j k) e ∙ samePair-tells .itself k in
               sym (gap-passes _ _ _ own (here-is ∙ gap)) ∙ gap-passes (x k) (x (image p k)) _ own gap
 
     -- the pairs after the winning one decide
-    module _ (xs ys : List Pair) (split : pairs (g .order) ≡ xs ++ pair row column ∷ ys) where
-      after : (k : Pair) → List·Memᴰ k ys → List·Memᴰ k (pairs (g .order)) × (rowBefore (pair row column) k ≡ true)
+    module _ (xs ys : List Pair) (split : comparedIn mode (g .order) ≡ xs ++ w ∷ ys) where
+      after : (k : Pair) → List·Memᴰ k ys → List·Memᴰ k ks × (before w k ≡ true)
       after k m =
           let s = mem-split k ys m in
-          let whole : pairs n ≡ (xs ++ w ∷ s .0) ++ k ∷ s .1 = split ∙ ap (λ (l : List Pair). xs ++ w ∷ l) (s .2) ∙ sym (append-assoc xs (w ∷ s .0) (k ∷ s .1)) in
-          (rw split (Memᴰ·append-right xs (List·Memᴰ·tail m)), t .order (xs ++ w ∷ s .0) k (s .1) whole w (pairs-has n w (winning-is g p high r row column wins)) .1 (Memᴰ·append-right xs (List·Memᴰ·head refl)))
+          let whole : ks ≡ (xs ++ w ∷ s .0) ++ k ∷ s .1 = split ∙ ap (λ (l : List Pair). xs ++ w ∷ l) (s .2) ∙ sym (append-assoc xs (w ∷ s .0) (k ∷ s .1)) in
+          (rw split (Memᴰ·append-right xs (List·Memᴰ·tail m)), t .order (xs ++ w ∷ s .0) k (s .1) whole w (winning-listed won-at) .1 (Memᴰ·append-right xs (List·Memᴰ·head refl)))
 
       code-earlier : (walkCode turn ys ≡ 2) ↔ Earlier ys (copy (image p) x) x
-      code-earlier = won-earlier x (image p) turn ys (λ k. settled-full rowBefore (image q) (staying rowBefore (image q) (entryAt g) w a b) k) (λ k m. let h = after k m in turn-is k (h .0) (h .1))
+      code-earlier = won-earlier x (image p) turn ys (λ k. settled-full before (image q) (staying before (image q) (entryAt g) w a b) k) (λ k m. let h = after k m in turn-is k (h .0) (h .1))
 
-  -- ---- what goes
+  -- ---- what may go
 
-  module _ (xs ys : List Pair) (split : pairs (g .order) ≡ xs ++ pair row column ∷ ys) where
-    -- the kinds by all the entries that stay
-    abbrev kindHere : Pair → ℕ
-    kindHere = kindAt (g .edges) (g .unknowns) (inverse (g .order) p) (pair row column) (pair row column)
+  -- the kinds by all the entries that stay
+  abbrev kindHere : Pair → ℕ
+  kindHere = kindAt (beforeIn mode) (g .edges) (g .unknowns) q w false false
 
-    kind-some : (k : Pair) → List·Memᴰ k (pairs (g .order)) → eqb (kindHere k) 0 ≡ not (stays rowBefore (image (inverse (g .order) p)) (entryAt g) (pair row column) false false k)
-    unfolding limit pick
-    kind-some k m = kind-none g q row column low rising false false k (pairs-given n k m) (source-is g p high r row column wins k m)
+  stays-not : (k : Pair) → kindHere k ≡ 0 → stays before (image q) (entryAt g) w false false k ≡ false
+  stays-not k e = turn-over _ (sym (kind-none before g q w false false k) ∙ eq-eqb (kindHere k) 0 e)
+    where
+      turn-over : (s : Bool) → not s ≡ true → s ≡ false
+      turn-over true h = absurd (true≢false (sym h))
+      turn-over false h = refl
 
-    stays-not : (k : Pair) → List·Memᴰ k (pairs (g .order)) → kindHere k ≡ 0 → stays rowBefore (image (inverse (g .order) p)) (entryAt g) (pair row column) false false k ≡ false
-    stays-not k m e = turn-over _ (sym (kind-some k m) ∙ eq-eqb (kindHere k) 0 e)
-      where
-        turn-over : (s : Bool) → not s ≡ true → s ≡ false
-        turn-over true h = absurd (true≢false (sym h))
-        turn-over false h = refl
+  stays-some : (k : Pair) → kindHere k ≢ 0 → stays before (image q) (entryAt g) w false false k ≡ true
+  stays-some k e = turn-over _ (sym (kind-none before g q w false false k) ∙ ne-eqb (kindHere k) 0 e)
+    where
+      turn-over : (s : Bool) → not s ≡ false → s ≡ true
+      turn-over true h = refl
+      turn-over false h = absurd (true≢false h)
 
-    stays-some : (k : Pair) → List·Memᴰ k (pairs (g .order)) → kindHere k ≢ 0 → stays rowBefore (image (inverse (g .order) p)) (entryAt g) (pair row column) false false k ≡ true
-    stays-some k m e = turn-over _ (sym (kind-some k m) ∙ ne-eqb (kindHere k) 0 e)
-      where
-        turn-over : (s : Bool) → not s ≡ false → s ≡ true
-        turn-over true h = refl
-        turn-over false h = absurd (true≢false h)
+  -- the walk on without what is left out
+  abbrev walksOn : Bool → Bool → ℕ
+  walksOn a b = walkCode (turnAfter (beforeIn mode) (g .edges) (g .unknowns) p q w a b) (pairsAfter mode (g .order) w)
 
-    winning-listed : List·Memᴰ (pair row column) (pairs (g .order))
-    winning-listed = pairs-has n w (winning-is g p high r row column wins)
+  -- what stands at the image of the winning pair may go where it stays and the walk on without it is won
+  pub image-kept : kindHere (image p w) ≡ 0 → false ≡ imageMay mode g p q w
+  unfolding Settled.imageMay
+  image-kept e = sym (first-fails _ _ (stays-not (image p w) e))
 
-    image-listed-too : List·Memᴰ (image p (pair row column)) (pairs (g .order))
-    image-listed-too = t .image-in w winning-listed
+  pub image-tried : kindHere (image p w) ≢ 0 → eqb (walksOn false true) 2 ≡ imageMay mode g p q w
+  unfolding Settled.imageMay
+  image-tried e =
+      let s = compared-split mode (g .order) w (winning-is won-at) in
+      let some = stays-some (image p w) e in
+      let trial = image-trial c (s .0) (pairsAfter mode (g .order) w) (s .1) some in
+      let code = code-earlier false true (s .0) (pairsAfter mode (g .order) w) (s .1) in
+      same-test (eqb (walksOn false true) 2) (winsBy samePair before (image p) (image q) ks (entryAt g) w false true)
+      (λ h. trial .1 (code .0 (eqb-true (walksOn false true) 2 h))) (λ h. eq-eqb (walksOn false true) 2 (code .1 (trial .0 h)))
+      ∙ sym (both-after _ _ some)
 
-    abbrev walksOn : Bool → Bool → ℕ
-    walksOn a b = walkCode (turnAfter (g .edges) (g .unknowns) p (inverse (g .order) p) (pair row (limit a column)) (pair row (limit b column))) ys
+  -- and so may what stands at the winning pair
+  pub pair-kept : kindHere w ≡ 0 → false ≡ pairMay mode g p q w
+  unfolding Settled.pairMay
+  pair-kept e = sym (first-fails _ _ (stays-not w e))
 
-    -- what stands at the image of the winning pair goes where it stays and the walk on without it is won
-    pub image-kept : kindHere (image p (pair row column)) ≡ 0 → false ≡ imageGoes samePair rowBefore (image p) (image (inverse (g .order) p)) (pairs (g .order)) (entryAt g) (pair row column)
-    unfolding imageGoes
-    image-kept e = sym (first-fails _ _ (stays-not (image p w) image-listed-too e))
-
-    pub image-tried : kindHere (image p (pair row column)) ≢ 0 → eqb (walksOn false true) 2 ≡ imageGoes samePair rowBefore (image p) (image (inverse (g .order) p)) (pairs (g .order)) (entryAt g) (pair row column)
-    unfolding imageGoes
-    image-tried e =
-        let s = stays-some (image p w) image-listed-too e in
-        let trial = image-trial c xs ys split s in
-        let code = code-earlier false true xs ys split in
-        same-test (eqb (walksOn false true) 2) (winsBy samePair rowBefore (image p) (image q) (pairs n) (entryAt g) w false true)
-        (λ h. trial .1 (code .0 (eqb-true (walksOn false true) 2 h))) (λ h. eq-eqb (walksOn false true) 2 (code .1 (trial .0 h)))
-        ∙ sym (both-after _ _ s)
-
-    -- what stands at the winning pair goes where that does not, it stays, and the walk on without it is won
-    module _ (dropped : Bool) (is : dropped ≡ imageGoes samePair rowBefore (image p) (image (inverse (g .order) p)) (pairs (g .order)) (entryAt g) (pair row column)) where
-      pub pair-spared : dropped ≡ true → false ≡ pairGoes samePair rowBefore (image p) (image (inverse (g .order) p)) (pairs (g .order)) (entryAt g) (pair row column)
-      unfolding pairGoes
-      pair-spared e = sym (first-fails _ _ (ap not (sym is ∙ e)))
-
-      pub pair-kept : dropped ≡ false → kindHere (pair row column) ≡ 0 → false ≡ pairGoes samePair rowBefore (image p) (image (inverse (g .order) p)) (pairs (g .order)) (entryAt g) (pair row column)
-      unfolding pairGoes
-      pair-kept e z = sym (both-after _ _ (ap not (sym is ∙ e)) ∙ first-fails _ _ (stays-not w winning-listed z))
-
-      pub pair-tried : dropped ≡ false → kindHere (pair row column) ≢ 0 → eqb (walksOn true false) 2 ≡ pairGoes samePair rowBefore (image p) (image (inverse (g .order) p)) (pairs (g .order)) (entryAt g) (pair row column)
-      unfolding pairGoes
-      pair-tried e z =
-          let s = stays-some w winning-listed z in
-          let trial = pair-trial c xs ys split s in
-          let code = code-earlier true false xs ys split in
-          same-test (eqb (walksOn true false) 2) (winsBy samePair rowBefore (image p) (image q) (pairs n) (entryAt g) w true false)
-          (λ h. trial .1 (code .0 (eqb-true (walksOn true false) 2 h))) (λ h. eq-eqb (walksOn true false) 2 (code .1 (trial .0 h)))
-          ∙ sym (both-after _ _ (ap not (sym is ∙ e)) ∙ both-after _ _ s)
+  pub pair-tried : kindHere w ≢ 0 → eqb (walksOn true false) 2 ≡ pairMay mode g p q w
+  unfolding Settled.pairMay
+  pair-tried e =
+      let s = compared-split mode (g .order) w (winning-is won-at) in
+      let some = stays-some w e in
+      let trial = pair-trial c (s .0) (pairsAfter mode (g .order) w) (s .1) some in
+      let code = code-earlier true false (s .0) (pairsAfter mode (g .order) w) (s .1) in
+      same-test (eqb (walksOn true false) 2) (winsBy samePair before (image p) (image q) ks (entryAt g) w true false)
+      (λ h. trial .1 (code .0 (eqb-true (walksOn true false) 2 h))) (λ h. eq-eqb (walksOn true false) 2 (code .1 (trial .0 h)))
+      ∙ sym (both-after _ _ some)

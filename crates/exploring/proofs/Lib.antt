@@ -2,5 +2,8 @@ pub mod CodeMasks
 pub mod MaskLaws
 pub mod BlockRuns
 pub mod Searching
+pub mod Choosing
 pub mod Trying
+pub mod TriedJudged
+pub mod NextTurn
 pub mod CodeSearch

@@ -15,7 +15,8 @@ use Rattle.laws.specs.TestLaws.{both-first, both-second, both-hold, same-test, 
 use Rattle.schemes.proofs.Judgements.{walk-alike}
 use Rattle.schemes.specs.Judging.{Arranges}
 use Rattle.plain.specs.Plain.{samePair, pairOfTwo}
-use Rattle.plain.proofs.Plain.{two-rising, two-falling, rows-lawful}
+use Rattle.plain.proofs.Plain.{two-rising, two-falling}
+use Rattle.plain.proofs.Modes.{mode-lawful}
 use Rattle.beginnings.specs.Beginning.{Beginning}
 use Rattle.beginnings.specs.Order.{Before}
 use Rattle.beginnings.proofs.Order.{before-irrefl}
@@ -145,8 +146,8 @@ module _ (n starts : ℕ) (high : n ≤ 32) where
 -- ---- so both have one walk
 
 -- the walk of a beginning doesn't change when it is padded
-pub padded-walk : (g : Graph) (b : List ℕ) → walkAll g (padded b) ≡ walkAll g b
-padded-walk g b = walk-alike (rows-lawful (g .order)) (entryAt g) (padded b) b (λ i l h. padded-at b i)
+pub padded-walk : (mode : ℕ) (g : Graph) (b : List ℕ) → walkAll mode g (padded b) ≡ walkAll mode g b
+padded-walk mode g b = walk-alike (mode-lawful mode (g .order)) (entryAt g) (padded b) b (λ i l h. padded-at b i)
 
 -- ---- the entry at an image
 

@@ -14,7 +14,7 @@ use Rattle.walk.specs.Clause.{absent, present, pairIn, sameLiteral, among, numb
 use Rattle.needed.specs.Kept.{kept}
 use Rattle.needed.specs.Enough.{isWon, enough, literals, needed}
 use Rattle.schemes.specs.Judging.{walkOf, literalsBy, neededBy, writtenBy}
-use Rattle.plain.specs.Plain.{samePair, pairOfTwo, image}
+use Rattle.plain.specs.Plain.{samePair, pairOfTwo, image, comparedIn}
 use Rattle.graph.specs.declared.Graph.{Graph}
 use Rattle.words.specs.Placed.{placed}
 use Rattle.rows.specs.Rows.{mirrored}
@@ -41,10 +41,10 @@ drawing = drawn 4 1 (λ i j. getD (0 ∷ 1 ∷ 1 ∷ 0 ∷ 0 ∷ 0 ∷ []) (numb
 abbrev turning : List ℕ
 turning = padded (3 ∷ 2 ∷ 4 ∷ 1 ∷ [])
 
-computed : (walkAll drawing turning ≡ won (pair 1 3)) × (literalsOf drawing turning ≡ present (pair 1 2) ∷ absent (pair 1 3) ∷ present (pair 2 3) ∷ present (pair 3 4) ∷ [])
-    × (clauseOf drawing turning ≡ negsuc 1 ∷ pos 4 ∷ pos 6 ∷ [])
-    × (walkAll drawing (inverse 4 turning) ≡ won (pair 1 4)) × (clauseOf drawing (inverse 4 turning) ≡ negsuc 1 ∷ pos 5 ∷ pos 6 ∷ [])
-unfolding both either pick wordUpTo listUpTo move ending put driven walk meeting met listed only literalAt Meeting.literalsOf sameLiteral among numbered clauseAfter clause isWon enough kept literals needed placed mirrored drawn alongRow fromRow pairs placeOf inverse samePair pairOfTwo padded walkOf literalsBy neededBy writtenBy
+computed : (walkAll 1 drawing turning ≡ won (pair 1 3)) × (literalsOf 1 drawing turning ≡ present (pair 1 2) ∷ absent (pair 1 3) ∷ present (pair 2 3) ∷ present (pair 3 4) ∷ [])
+    × (clauseOf 1 drawing turning ≡ negsuc 1 ∷ pos 4 ∷ pos 6 ∷ [])
+    × (walkAll 1 drawing (inverse 4 turning) ≡ won (pair 1 4)) × (clauseOf 1 drawing (inverse 4 turning) ≡ negsuc 1 ∷ pos 5 ∷ pos 6 ∷ [])
+unfolding both either pick wordUpTo listUpTo move ending put driven walk meeting met listed only literalAt Meeting.literalsOf sameLiteral among numbered clauseAfter clause isWon enough kept literals needed placed mirrored drawn alongRow fromRow pairs comparedIn placeOf inverse samePair pairOfTwo padded walkOf literalsBy neededBy writtenBy
 computed = (refl, refl, refl, refl, refl)
 
 -- at order 5 and the winning pair (1, 5), either of its two literals could be dropped, and not both: the higher number goes, and over what the
@@ -55,18 +55,18 @@ eitherDrawn = drawn 5 1 (λ i j. getD (2 ∷ 1 ∷ 2 ∷ 1 ∷ 0 ∷ 2 ∷ 0 ∷
 abbrev eitherTurned : List ℕ
 eitherTurned = padded (2 ∷ 1 ∷ 4 ∷ 5 ∷ 3 ∷ [])
 
-either-dropped : (walkAll eitherDrawn eitherTurned ≡ won (pair 1 5)) × (literalsOf eitherDrawn eitherTurned ≡ absent (pair 1 3) ∷ absent (pair 1 5) ∷ present (pair 2 3) ∷ present (pair 2 5) ∷ [])
-    × (clauseOf eitherDrawn eitherTurned ≡ negsuc 1 ∷ negsuc 3 ∷ pos 7 ∷ [])
-    × (walk samePair (image eitherTurned) (pairs 5) (only samePair (map pairIn (neededOf eitherDrawn eitherTurned)) (entryAt eitherDrawn)) ≡ won (pair 2 3))
-unfolding both either pick wordUpTo listUpTo move ending put driven walk meeting met listed only literalAt Meeting.literalsOf sameLiteral among numbered clauseAfter clause isWon enough kept literals needed placed mirrored drawn alongRow fromRow pairs samePair pairOfTwo padded walkOf literalsBy neededBy writtenBy
+either-dropped : (walkAll 1 eitherDrawn eitherTurned ≡ won (pair 1 5)) × (literalsOf 1 eitherDrawn eitherTurned ≡ absent (pair 1 3) ∷ absent (pair 1 5) ∷ present (pair 2 3) ∷ present (pair 2 5) ∷ [])
+    × (clauseOf 1 eitherDrawn eitherTurned ≡ negsuc 1 ∷ negsuc 3 ∷ pos 7 ∷ [])
+    × (walk samePair (image eitherTurned) (pairs 5) (only samePair (map pairIn (neededOf 1 eitherDrawn eitherTurned)) (entryAt eitherDrawn)) ≡ won (pair 2 3))
+unfolding both either pick wordUpTo listUpTo move ending put driven walk meeting met listed only literalAt Meeting.literalsOf sameLiteral among numbered clauseAfter clause isWon enough kept literals needed placed mirrored drawn alongRow fromRow pairs comparedIn samePair pairOfTwo padded walkOf literalsBy neededBy writtenBy
 either-dropped = (refl, refl, refl, refl)
 
 -- the entries 1, unknown, 0, and the arrangement 3, 1, 2: (1, 3) is unknown, is driven to 1 by (1, 2), and wins against (2, 3)
 abbrev halfDrawn : Graph
 halfDrawn = drawn 3 1 (λ i j. getD (1 ∷ 2 ∷ 0 ∷ []) (number 3 i j - 1) 0)
 
-driven-computed : (walkAll halfDrawn (padded (3 ∷ 1 ∷ 2 ∷ [])) ≡ won (pair 1 3)) × (clauseOf halfDrawn (padded (3 ∷ 1 ∷ 2 ∷ [])) ≡ negsuc 0 ∷ pos 3 ∷ [])
-unfolding both either pick wordUpTo listUpTo move ending put driven walk meeting met listed only literalAt Meeting.literalsOf sameLiteral among numbered clauseAfter clause isWon enough kept literals needed placed mirrored drawn alongRow fromRow pairs samePair pairOfTwo padded walkOf literalsBy neededBy writtenBy
+driven-computed : (walkAll 1 halfDrawn (padded (3 ∷ 1 ∷ 2 ∷ [])) ≡ won (pair 1 3)) × (clauseOf 1 halfDrawn (padded (3 ∷ 1 ∷ 2 ∷ [])) ≡ negsuc 0 ∷ pos 3 ∷ [])
+unfolding both either pick wordUpTo listUpTo move ending put driven walk meeting met listed only literalAt Meeting.literalsOf sameLiteral among numbered clauseAfter clause isWon enough kept literals needed placed mirrored drawn alongRow fromRow pairs comparedIn samePair pairOfTwo padded walkOf literalsBy neededBy writtenBy
 driven-computed = (refl, refl)
 
 half-formed : wellFormed halfDrawn ≡ true
@@ -78,6 +78,6 @@ unfolding both either pick allUpTo sumUpTo isNew placeFits isReordering staysInB
 half-permitted = refl
 
 -- so 3, 1, 2 is a certificate of it
-pub half-certified : Certified halfDrawn (padded (3 ∷ 1 ∷ 2 ∷ []))
+pub half-certified : Certified 1 halfDrawn (padded (3 ∷ 1 ∷ 2 ∷ []))
 unfolding drawn
-half-certified = certified-won halfDrawn (formed halfDrawn half-formed) (padded (3 ∷ 1 ∷ 2 ∷ [])) (permitted 3 1 (padded (3 ∷ 1 ∷ 2 ∷ [])) (omega arith) half-permitted) .1 (pair 1 3, driven-computed .0)
+half-certified = certified-won 1 halfDrawn (formed halfDrawn half-formed) (padded (3 ∷ 1 ∷ 2 ∷ [])) (permitted 3 1 (padded (3 ∷ 1 ∷ 2 ∷ [])) (omega arith) half-permitted) .1 (pair 1 3, driven-computed .0)

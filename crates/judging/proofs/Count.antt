@@ -13,30 +13,30 @@ use Rattle.rows.specs.Rows.{blockOf}
 use Rattle.judging.specs.Judging.{judged, stepsFor}
 use Rattle.judging.specs.InWords.{AllReached}
 
-module _ (g : Graph) where
+module _ (mode : ℕ) (g : Graph) where
   -- the list that a search makes is such a list
-  pub reached-all : AllReached g (reached (g .order) (blockOf (g .starts)) (judged g))
-  reached-all = record { exactly = reached-exactly (g .order) (blockOf (g .starts)) (judged g); rising = reached-rises (g .order) (blockOf (g .starts)) (judged g) }
+  pub reached-all : AllReached mode g (reached (g .order) (blockOf (g .starts)) (judged mode g))
+  reached-all = record { exactly = reached-exactly (g .order) (blockOf (g .starts)) (judged mode g); rising = reached-rises (g .order) (blockOf (g .starts)) (judged mode g) }
 
-  module _ (bs : List (List ℕ)) (all : AllReached g bs) where
+  module _ (bs : List (List ℕ)) (all : AllReached mode g bs) where
     -- and there is no other
-    pub reached-alone : bs ≡ reached (g .order) (blockOf (g .starts)) (judged g)
-    reached-alone = reached-unique (g .order) (blockOf (g .starts)) (judged g) bs (all .rising) (all .exactly)
+    pub reached-alone : bs ≡ reached (g .order) (blockOf (g .starts)) (judged mode g)
+    reached-alone = reached-unique (g .order) (blockOf (g .starts)) (judged mode g) bs (all .rising) (all .exactly)
 
     -- one of them is the first won one, or none is won
-    pub won-or-none : NoneWon (judged g) bs ⊎ ((b : List ℕ) × FirstWon (judged g) bs b)
-    won-or-none = none-or-first (judged g) bs
+    pub won-or-none : NoneWon (judged mode g) bs ⊎ ((b : List ℕ) × FirstWon (judged mode g) bs b)
+    won-or-none = none-or-first (judged mode g) bs
 
-    steps-through : stepsFor g ≡ length (throughWon (judged g) bs)
+    steps-through : stepsFor mode g ≡ length (throughWon (judged mode g) bs)
     unfolding needed
-    steps-through = ap (λ (l : List (List ℕ)). length (throughWon (judged g) l)) (sym reached-alone)
+    steps-through = ap (λ (l : List (List ℕ)). length (throughWon (judged mode g) l)) (sym reached-alone)
 
     -- if none is won, the steps needed are all of them
-    pub count-none : NoneWon (judged g) bs → stepsFor g ≡ length bs
-    count-none h = steps-through ∙ ap length (through-none (judged g) bs h)
+    pub count-none : NoneWon (judged mode g) bs → stepsFor mode g ≡ length bs
+    count-none h = steps-through ∙ ap length (through-none (judged mode g) bs h)
 
     -- else those up to the first won one, with it
-    pub count-first : (b : List ℕ) (f : FirstWon (judged g) bs b) → stepsFor g ≡ suc (length (f .before))
+    pub count-first : (b : List ℕ) (f : FirstWon (judged mode g) bs b) → stepsFor mode g ≡ suc (length (f .before))
     count-first b f =
-        steps-through ∙ ap (λ (l : List (List ℕ)). length (throughWon (judged g) l)) (f .split)
-        ∙ ap length (through-first (judged g) (f .before) b (f .after) (f .none-before) (f .wins)) ∙ omega (arith, length-append (f .before) (b ∷ []))
+        steps-through ∙ ap (λ (l : List (List ℕ)). length (throughWon (judged mode g) l)) (f .split)
+        ∙ ap length (through-first (judged mode g) (f .before) b (f .after) (f .none-before) (f .wins)) ∙ omega (arith, length-append (f .before) (b ∷ []))

@@ -15,3 +15,4 @@ pub mod Least
 pub mod Survival
 pub mod Standing
 pub mod Computed
+pub mod FirstVertices

@@ -14,8 +14,8 @@ use Rattle.walk.proofs.Order.{earlier-alike}
 use Rattle.schemes.specs.Judging.{FullOn, Has, copyBy, Comes}
 use Rattle.schemes.proofs.Images.{image-listed}
 use Rattle.schemes.proofs.Meaning.{walk-means}
-use Rattle.plain.specs.Plain.{byRows}
-use Rattle.plain.proofs.Plain.{rows-lawful}
+use Rattle.plain.specs.Plain.{comparedIn, byMode}
+use Rattle.plain.proofs.Modes.{mode-lawful, mode-given, mode-numbered, numbered-compared}
 use Rattle.graph.specs.declared.Graph.{Graph}
 use Rattle.graph.specs.Graph.{entry, drawn, relabelled}
 use Rattle.rows.specs.Rows.{mirrored}
@@ -35,18 +35,18 @@ use Rattle.judging.proofs.Arrangements.{permitted-arranges, entry-of-tw
 -- ---- copies
 
 -- the entry of a graph relabelled by p at a pair is the graph's entry at its image
-pub relabelled-image : (h : Graph) → WellFormed h → (p : List ℕ) → Each (λ k. entryAt (relabelled h p) k ≡ copyBy (byRows (h .order)) p (entryAt h) k) (pairs (h .order))
-relabelled-image h w p k m =
-    let b = pairs-given (h .order) k m in
+pub relabelled-image : (mode : ℕ) (h : Graph) → WellFormed h → (p : List ℕ) → Each (λ k. entryAt (relabelled h p) k ≡ copyBy (byMode mode (h .order)) p (entryAt h) k) (comparedIn mode (h .order))
+relabelled-image mode h w p k m =
+    let b = mode-given mode (h .order) k m in
     relabelled-entry h p w (k .row) (k .column) (b .from-low) (omega arith) (omega arith) (b .to-high)
     ∙ sym (entry-of-two h w (at p (k .row)) (at p (k .column)))
 
 -- so the relabelled graph is earlier exactly where the entries of the images are
-pub copy-earlier : (h : Graph) → WellFormed h → (p : List ℕ) → Comes (byRows (h .order)) (copyBy (byRows (h .order)) p (entryAt h)) (entryAt h) ↔ EarlierGraph (relabelled h p) h
-copy-earlier h w p =
+pub copy-earlier : (mode : ℕ) (h : Graph) → WellFormed h → (p : List ℕ) → Comes (byMode mode (h .order)) (copyBy (byMode mode (h .order)) p (entryAt h)) (entryAt h) ↔ EarlierGraph mode (relabelled h p) h
+copy-earlier mode h w p =
     rw (relabelled-order h p w) (
-      earlier-alike (pairs (h .order)) (copyBy (byRows (h .order)) p (entryAt h)) (entryAt h) (entryAt (relabelled h p)) (entryAt h) (relabelled-image h w p) (λ k m. refl),
-      earlier-alike (pairs (h .order)) (entryAt (relabelled h p)) (entryAt h) (copyBy (byRows (h .order)) p (entryAt h)) (entryAt h) (λ k m. sym (relabelled-image h w p k m)) (λ k m. refl),
+      earlier-alike (comparedIn mode (h .order)) (copyBy (byMode mode (h .order)) p (entryAt h)) (entryAt h) (entryAt (relabelled h p)) (entryAt h) (relabelled-image mode h w p) (λ k m. refl),
+      earlier-alike (comparedIn mode (h .order)) (entryAt (relabelled h p)) (entryAt h) (copyBy (byMode mode (h .order)) p (entryAt h)) (entryAt h) (λ k m. sym (relabelled-image mode h w p k m)) (λ k m. refl),
     )
 
 -- ---- drawings
@@ -81,7 +81,7 @@ module _ (g : Graph) (w : WellFormed g) (H : Pair → ℕ) (small : Each (λ k. 
   with-entries k m = let b = pairs-given (g .order) k m in with-entry (k .row) (k .column) (b .from-low) (b .rising) (b .to-high)
 
 -- a full one that of a full drawing
-module _ (g : Graph) (w : WellFormed g) (H : Pair → ℕ) (full : FullOn (byRows (g .order)) H) where
+module _ (g : Graph) (w : WellFormed g) (H : Pair → ℕ) (full : Each (λ k. H k ≤ 1) (pairs (g .order))) where
   small : Each (λ k. H k ≤ 2) (pairs (g .order))
   small k m = omega (arith, full k m)
 
@@ -108,31 +108,32 @@ module _ (g : Graph) (w : WellFormed g) (H : Pair → ℕ) (full : FullOn (byRow
 
 -- ---- certificates
 
-module _ (g : Graph) (w : WellFormed g) (p : List ℕ) (permitted : Permitted (g .order) (g .starts) p) where
+module _ (mode : ℕ) (g : Graph) (w : WellFormed g) (p : List ℕ) (permitted : Permitted (g .order) (g .starts) p) where
   -- the walk is won exactly where the copy of every full drawing of entries comes earlier
-  means : ((k : Pair) × (walkAll g p ≡ won k)) ↔ ((H : Pair → ℕ) → FullOn (byRows (g .order)) H → Has (byRows (g .order)) (entryAt g) H → Comes (byRows (g .order)) (copyBy (byRows (g .order)) p H) H)
-  means = walk-means (rows-lawful (g .order)) (entryAt g) p (permitted-arranges (g .order) (g .starts) p permitted .reorders)
+  means : ((k : Pair) × (walkAll mode g p ≡ won k)) ↔ ((H : Pair → ℕ) → FullOn (byMode mode (g .order)) H → Has (byMode mode (g .order)) (entryAt g) H → Comes (byMode mode (g .order)) (copyBy (byMode mode (g .order)) p H) H)
+  means = walk-means (mode-lawful mode (g .order)) (entryAt g) p (permitted-arranges (g .order) (g .starts) p permitted .reorders)
 
   -- so it is won exactly where every full drawing of g has an earlier relabelled copy
-  pub certified-won : Certified g p ↔ ((k : Pair) × (walkAll g p ≡ won k))
+  pub certified-won : Certified mode g p ↔ ((k : Pair) × (walkAll mode g p ≡ won k))
   certified-won = (to, from)
     where
-      from : (k : Pair) × (walkAll g p ≡ won k) → Certified g p
+      from : (k : Pair) × (walkAll mode g p ≡ won k) → Certified mode g p
       from k =
           record {
             permitted = permitted;
             earlier = λ h c.
                 let d = c .drawing in
-                copy-earlier h (d .formed) p .0 (rw (d .order-is) (means .0 k (entryAt h) (λ j m. d .full .known (j .row) (j .column)) (c .agrees)));
+                copy-earlier mode h (d .formed) p .0 (rw (d .order-is) (means .0 k (entryAt h) (λ j m. d .full .known (j .row) (j .column)) (λ j m. c .agrees j (mode-numbered mode (g .order) j m))));
           }
 
-      to : Certified g p → (k : Pair) × (walkAll g p ≡ won k)
+      to : Certified mode g p → (k : Pair) × (walkAll mode g p ≡ won k)
       to c =
           means .1
           (λ H f x.
-          let h : Graph = fullWith g w H f in
-          let d : FullGraph (g .order) (g .starts) h = full-with g w H f in
-          let same : Each (λ k. entryAt h k ≡ H k) (pairs (g .order)) = full-entries g w H f in
-          let e : Comes (byRows (g .order)) (copyBy (byRows (g .order)) p (entryAt h)) (entryAt h) = rw (d .order-is) at (copy-earlier h (d .formed) p .1 (c .earlier h (record { drawing = d; agrees = λ k m l. same k m ∙ x k m l }))) in
-          earlier-alike (pairs (g .order)) (copyBy (byRows (g .order)) p (entryAt h)) (entryAt h) (copyBy (byRows (g .order)) p H) H
-          (λ k m. sym (same _ (image-listed (rows-lawful (g .order)) p (permitted-arranges (g .order) (g .starts) p permitted .reorders) k m))) (λ k m. sym (same k m)) e)
+          let full : Each (λ k. H k ≤ 1) (pairs (g .order)) = λ k m. f k (numbered-compared mode (g .order) k m) in
+          let h : Graph = fullWith g w H full in
+          let d : FullGraph (g .order) (g .starts) h = full-with g w H full in
+          let same : Each (λ k. entryAt h k ≡ H k) (comparedIn mode (g .order)) = λ k m. full-entries g w H full k (mode-numbered mode (g .order) k m) in
+          let e : Comes (byMode mode (g .order)) (copyBy (byMode mode (g .order)) p (entryAt h)) (entryAt h) = rw (d .order-is) at (copy-earlier mode h (d .formed) p .1 (c .earlier h (record { drawing = d; agrees = λ k m l. let i = numbered-compared mode (g .order) k m in same k i ∙ x k i l }))) in
+          earlier-alike (comparedIn mode (g .order)) (copyBy (byMode mode (g .order)) p (entryAt h)) (entryAt h) (copyBy (byMode mode (g .order)) p H) H
+          (λ k m. sym (same _ (image-listed (mode-lawful mode (g .order)) p (permitted-arranges (g .order) (g .starts) p permitted .reorders) k m))) (λ k m. sym (same k m)) e)

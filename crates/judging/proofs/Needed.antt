@@ -29,8 +29,9 @@ use Rattle.needed.proofs.Enough.{false-known, enough-tells}
 use Rattle.schemes.specs.Judging.{walkOf, writtenBy}
 use Rattle.schemes.proofs.Images.{image-listed}
 use Rattle.schemes.proofs.Meaning.{needed-false-in, needed-listed, needed-spares}
-use Rattle.plain.specs.Plain.{samePair, image}
-use Rattle.plain.proofs.Plain.{samePair-tells, rows-lawful}
+use Rattle.plain.specs.Plain.{samePair, image, comparedIn}
+use Rattle.plain.proofs.Plain.{samePair-tells}
+use Rattle.plain.proofs.Modes.{mode-lawful, mode-numbered, numbered-compared}
 use Rattle.graph.specs.declared.Graph.{Graph}
 use Rattle.graph.specs.Graph.{relabelled}
 use Rattle.graph.specs.Counts.{entryAt}
@@ -97,69 +98,69 @@ knows-only g w lits =
       },
     )
 
-module _ (g : Graph) (p : List ℕ) (permitted : Permitted (g .order) (g .starts) p) where
+module _ (mode : ℕ) (g : Graph) (p : List ℕ) (permitted : Permitted (g .order) (g .starts) p) where
   abbrev n : ℕ
   n = g .order
 
-  closed : Each (λ k. List·Memᴰ (image p k) (pairs (g .order))) (pairs (g .order))
-  closed = image-listed (rows-lawful n) p (permitted-arranges n (g .starts) p permitted .reorders)
+  closed : Each (λ k. List·Memᴰ (image p k) (comparedIn mode (g .order))) (comparedIn mode (g .order))
+  closed = image-listed (mode-lawful mode n) p (permitted-arranges n (g .starts) p permitted .reorders)
 
   -- the test holds exactly where p is a certificate of that graph, for literals that are false in g
   pub enough-certified : (lits : List (Literal Pair)) → Breaks lits (entryAt g) → (h : Graph) → KnowsOnly g lits h
-      → (enough samePair (image p) (pairs (g .order)) (entryAt g) lits ≡ true) ↔ Certified h p
+      → (enough samePair (image p) (comparedIn mode (g .order)) (entryAt g) lits ≡ true) ↔ Certified mode h p
   unfolding walkOf
   enough-certified lits b h knows = (
     λ e. certified .1 (from-g (won-here .0 e)),
     λ c. won-here .1 (to-g (certified .0 c)),
   )
     where
-      won-here : (enough samePair (image p) (pairs (g .order)) (entryAt g) lits ≡ true) ↔ Won samePair (image p) (pairs (g .order)) (only samePair (map pairIn lits) (entryAt g))
-      won-here = enough-tells samePair-tells (λ k. List·Memᴰ k (pairs n)) (image p) (pairs n) (λ k m. m) closed (entryAt g) lits
+      won-here : (enough samePair (image p) (comparedIn mode (g .order)) (entryAt g) lits ≡ true) ↔ Won samePair (image p) (comparedIn mode (g .order)) (only samePair (map pairIn lits) (entryAt g))
+      won-here = enough-tells samePair-tells (λ k. List·Memᴰ k (comparedIn mode n)) (image p) (comparedIn mode n) (λ k m. m) closed (entryAt g) lits
 
-      certified : Certified h p ↔ ((k : Pair) × (walkAll h p ≡ won k))
-      certified = certified-won h (knows .formed) p (rw (knows .order-is, knows .starts-are) permitted)
+      certified : Certified mode h p ↔ ((k : Pair) × (walkAll mode h p ≡ won k))
+      certified = certified-won mode h (knows .formed) p (rw (knows .order-is, knows .starts-are) permitted)
 
-      same-walk : walk samePair (image p) (pairs (g .order)) (only samePair (map pairIn lits) (entryAt g)) ≡ walk samePair (image p) (pairs (h .order)) (entryAt h)
+      same-walk : walk samePair (image p) (comparedIn mode (g .order)) (only samePair (map pairIn lits) (entryAt g)) ≡ walk samePair (image p) (comparedIn mode (h .order)) (entryAt h)
       same-walk =
           rw (knows .order-is)
-          (met-decides samePair-tells (image p) (pairs n) (entryAt h) (only samePair (map pairIn lits) (entryAt g))
-          (λ k m. sym (said-is (entryAt g) lits b k) ∙ sym (knows .entries k (met-within samePair (image p) (λ j. List·Memᴰ j (pairs n)) (pairs n) (λ j i. i) closed (entryAt h) k m))))
+          (met-decides samePair-tells (image p) (comparedIn mode n) (entryAt h) (only samePair (map pairIn lits) (entryAt g))
+          (λ k m. sym (said-is (entryAt g) lits b k) ∙ sym (knows .entries k (mode-numbered mode n k (met-within samePair (image p) (λ j. List·Memᴰ j (comparedIn mode n)) (comparedIn mode n) (λ j i. i) closed (entryAt h) k m)))))
 
-      from-g : Won samePair (image p) (pairs (g .order)) (only samePair (map pairIn lits) (entryAt g)) → (k : Pair) × (walkAll h p ≡ won k)
+      from-g : Won samePair (image p) (comparedIn mode (g .order)) (only samePair (map pairIn lits) (entryAt g)) → (k : Pair) × (walkAll mode h p ≡ won k)
       from-g w = (w .0, sym same-walk ∙ w .1)
 
-      to-g : (k : Pair) × (walkAll h p ≡ won k) → Won samePair (image p) (pairs (g .order)) (only samePair (map pairIn lits) (entryAt g))
+      to-g : (k : Pair) × (walkAll mode h p ≡ won k) → Won samePair (image p) (comparedIn mode (g .order)) (only samePair (map pairIn lits) (entryAt g))
       to-g w = (w .0, same-walk ∙ w .1)
 
 -- ---- no literal can be dropped
 
-module _ (g : Graph) (w : WellFormed g) (p : List ℕ) (permitted : Permitted (g .order) (g .starts) p) (z : ℤ) (m : List·Memᴰ z (clauseOf g p)) where
+module _ (mode : ℕ) (g : Graph) (w : WellFormed g) (p : List ℕ) (permitted : Permitted (g .order) (g .starts) p) (z : ℤ) (m : List·Memᴰ z (clauseOf mode g p)) where
   injects : Injects (g .order) (g .order) (at p)
   injects = permitted-arranges (g .order) (g .starts) p permitted .reorders
 
   -- what each number is written for
-  written-for : (y : ℤ) → List·Memᴰ y (clauseOf g p) → Written (neededOf g p) (pairs (g .order)) y
+  written-for : (y : ℤ) → List·Memᴰ y (clauseOf mode g p) → Written (neededOf mode g p) (pairs (g .order)) y
   unfolding writtenBy
-  written-for y i = clause-written samePair-tells (neededOf g p) (pairs (g .order)) y i
+  written-for y i = clause-written samePair-tells (neededOf mode g p) (pairs (g .order)) y i
 
   abbrev l : Literal Pair
   l = written-for z m .literal
 
-  splits : (xs : List (Literal Pair)) × (ys : List (Literal Pair)) × (neededOf g p ≡ xs ++ written-for z m .literal ∷ ys)
-  splits = mem-split l (neededOf g p) (written-for z m .listed)
+  splits : (xs : List (Literal Pair)) × (ys : List (Literal Pair)) × (neededOf mode g p ≡ xs ++ written-for z m .literal ∷ ys)
+  splits = mem-split l (neededOf mode g p) (written-for z m .listed)
 
   abbrev others : List (Literal Pair)
   others = splits .0 ++ splits .1
 
   -- a drawing that breaks all others and whose copy is not earlier
-  spared : Unbeaten (rows-lawful (g .order) .tells) (λ k. List·Memᴰ k (pairs (g .order))) (image p) (pairs (g .order)) (only samePair (map pairIn others) (entryAt g))
-  spared = needed-spares (rows-lawful (g .order)) (pairs (g .order)) (λ k i. i) (entryAt g) p injects (splits .0) l (splits .1) (splits .2)
+  spared : Unbeaten (mode-lawful mode (g .order) .tells) (λ k. List·Memᴰ k (comparedIn mode (g .order))) (image p) (comparedIn mode (g .order)) (only samePair (map pairIn others) (entryAt g))
+  spared = needed-spares (mode-lawful mode (g .order)) (pairs (g .order)) (mode-numbered mode (g .order)) (entryAt g) p injects (splits .0) l (splits .1) (splits .2)
 
   abbrev H : Pair → ℕ
   H = spared .drawing
 
   -- another number is of another literal
-  other : (y : ℤ) (i : List·Memᴰ y (clauseOf g p)) → y ≢ z → List·Memᴰ (written-for y i .literal) others
+  other : (y : ℤ) (i : List·Memᴰ y (clauseOf mode g p)) → y ≢ z → List·Memᴰ (written-for y i .literal) others
   other y i ne = at (List·Memᴰ·append-cases (splits .0) (subst (λ (xs : List (Literal Pair)). List·Memᴰ (written-for y i .literal) xs) (splits .2) (written-for y i .listed)))
     where
       same-number : written-for y i .literal ≡ written-for z m .literal → y ≡ z
@@ -176,33 +177,36 @@ module _ (g : Graph) (w : WellFormed g) (p : List ℕ) (permitted : Permitted (g
           side (inl e) = absurd (ne (same-number e))
           side (inr k) = Memᴰ·append-right (splits .0) k
 
-  pub clause-needed : Needs g p (clauseOf g p) z
+  pub clause-needed : Needs mode g p (clauseOf mode g p) z
   clause-needed =
       record {
         drawing = h;
-        full = full-with g w H (spared .full);
+        full = full-with g w H full;
         others-false = λ y i ne. broken y i ne;
-        not-earlier = λ e. spared .stays (earlier-alike (pairs (g .order)) (copy (image p) (entryAt h)) (entryAt h) (copy (image p) H) H (λ k i. sym (entries (image p k) (image-listed (rows-lawful (g .order)) p injects k i))) (λ k i. sym (entries k i)) (earlier e));
+        not-earlier = λ e. spared .stays (earlier-alike (comparedIn mode (g .order)) (copy (image p) (entryAt h)) (entryAt h) (copy (image p) H) H (λ k i. sym (entries (image p k) (image-listed (mode-lawful mode (g .order)) p injects k i))) (λ k i. sym (entries k i)) (earlier e));
       }
     where
-      h : Graph
-      h = fullWith g w H (spared .full)
+      full : Each (λ k. H k ≤ 1) (pairs (g .order))
+      full k i = spared .full k (numbered-compared mode (g .order) k i)
 
-      entries : Each (λ k. entryAt h k ≡ H k) (pairs (g .order))
-      entries = full-entries g w H (spared .full)
+      h : Graph
+      h = fullWith g w H full
+
+      entries : Each (λ k. entryAt h k ≡ H k) (comparedIn mode (g .order))
+      entries k i = full-entries g w H full k (mode-numbered mode (g .order) k i)
 
       same-order : h .order ≡ g .order
-      same-order = full-with g w H (spared .full) .order-is
+      same-order = full-with g w H full .order-is
 
-      earlier : EarlierGraph (relabelled h p) h → Earlier (pairs (g .order)) (copy (image p) (entryAt h)) (entryAt h)
-      earlier e = rw same-order at (copy-earlier h (full-with g w H (spared .full) .formed) p .1 e)
+      earlier : EarlierGraph mode (relabelled h p) h → Earlier (comparedIn mode (g .order)) (copy (image p) (entryAt h)) (entryAt h)
+      earlier e = rw same-order at (copy-earlier mode h (full-with g w H full .formed) p .1 e)
 
-      broken : (y : ℤ) → List·Memᴰ y (clauseOf g p) → y ≢ z → FalseAt (pairs (g .order)) (entryAt h) y
+      broken : (y : ℤ) → List·Memᴰ y (clauseOf mode g p) → y ≢ z → FalseAt (pairs (g .order)) (entryAt h) y
       broken y i ne =
           let x = written-for y i in
           let there : List·Memᴰ (pairIn (x .literal)) (map pairIn others) = Memᴰ·map pairIn (other y i ne) in
-          let false-in-g : FalseIn (entryAt g) (x .literal) = needed-false-in (rows-lawful (g .order)) (pairs (g .order)) (λ k j. j) (entryAt g) p injects (x .literal) (x .listed) in
-          let inside : List·Memᴰ (pairIn (x .literal)) (pairs (g .order)) = needed-listed (rows-lawful (g .order)) (pairs (g .order)) (λ k j. j) (entryAt g) p injects (x .literal) (x .listed) in
+          let false-in-g : FalseIn (entryAt g) (x .literal) = needed-false-in (mode-lawful mode (g .order)) (pairs (g .order)) (mode-numbered mode (g .order)) (entryAt g) p injects (x .literal) (x .listed) in
+          let inside : List·Memᴰ (pairIn (x .literal)) (comparedIn mode (g .order)) = needed-listed (mode-lawful mode (g .order)) (pairs (g .order)) (mode-numbered mode (g .order)) (entryAt g) p injects (x .literal) (x .listed) in
           let same : only samePair (map pairIn others) (entryAt g) (pairIn (x .literal)) ≡ entryAt g (pairIn (x .literal)) = only-listed samePair-tells (map pairIn others) (entryAt g) (pairIn (x .literal)) there in
           let known : only samePair (map pairIn others) (entryAt g) (pairIn (x .literal)) ≤ 1 = rw same (false-known (entryAt g) (x .literal) false-in-g) in
           let as-g : entryAt h (pairIn (x .literal)) ≡ entryAt g (pairIn (x .literal)) = entries (pairIn (x .literal)) inside ∙ spared .extends (pairIn (x .literal)) inside known ∙ same in
@@ -215,9 +219,9 @@ module _ (g : Graph) (w : WellFormed g) (p : List ℕ) (permitted : Permitted (g
 -- ---- what judging writes
 
 -- no number that it writes can be dropped
-pub written-needed : (g : Graph) (budget : ℕ) (buffer : List ℤ) → SaysSmaller g budget buffer
-    → Each (Needs g (judgeAnswer g budget (length buffer) .arrangement) (written g budget buffer)) (written g budget buffer)
-written-needed g budget buffer says =
-    let c = smaller-certified g budget (length buffer) says in
-    subst (λ (zs : List ℤ). Each (Needs g (judgeAnswer g budget (length buffer) .arrangement) zs) zs) (sym (written-is g budget buffer says))
-    (λ z m. clause-needed g (c .0) (judgeAnswer g budget (length buffer) .arrangement) (c .1 .permitted) z m)
+pub written-needed : (mode : ℕ) (g : Graph) (budget : ℕ) (buffer : List ℤ) → SaysSmaller mode g budget buffer
+    → Each (Needs mode g (judgeAnswer mode g budget (length buffer) .arrangement) (written mode g budget buffer)) (written mode g budget buffer)
+written-needed mode g budget buffer says =
+    let c = smaller-certified mode g budget (length buffer) says in
+    subst (λ (zs : List ℤ). Each (Needs mode g (judgeAnswer mode g budget (length buffer) .arrangement) zs) zs) (sym (written-is mode g budget buffer says))
+    (λ z m. clause-needed mode g (c .0) (judgeAnswer mode g budget (length buffer) .arrangement) (c .1 .permitted) z m)

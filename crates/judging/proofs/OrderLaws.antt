@@ -1,10 +1,14 @@
--- The two orders are one: a symmetric matrix with a zero diagonal first differs from another above the diagonal.
+-- The orders of the rules are the published ones: a symmetric matrix with a zero diagonal first differs from another above the diagonal,
+-- and the columns of its upper half are the pairs in column order.
 use Prim.Native.Nat.{ℕ, zero, suc, _+_, _-_, _≤_, _<_}
 use native.Mathlib.Nat.{eq-or-lt-of-le}
 use native.Mathlib.Omega.{arith}
 use mathlib.Core.Path.{_≡_, refl, sym, ap, ap₂, subst, subst₂, _∙_}
 use mathlib.Core.Logic.{inl, inr, _↔_, ⊎-elim, Iff·rfl, Iff·symm, Iff·trans}
+use mathlib.Core.Bool.{Bool, true, false}
 use mathlib.Core.List.{List, [], _∷_, _++_, map, List·Memᴰ, List·Memᴰ·head, List·Memᴰ·tail, List·Memᴰ·cases-cons, List·Memᴰ·not-nil, append-assoc}
+use lib.Dec.{eqb}
+use Rattle.laws.specs.Test.{pick}
 use Rattle.laws.specs.UpTo.{listUpTo}
 use Rattle.laws.specs.ListLaws.{map-append}
 use Rattle.walk.specs.Earlier.{LexLess}
@@ -13,8 +17,10 @@ use Rattle.graph.specs.declared.Graph.{Graph}
 use Rattle.graph.specs.Graph.{entry}
 use Rattle.graph.specs.WellFormed.{WellFormed}
 use Rattle.pairs.specs.Pairs.{Pair, pair, alongRow, fromRow, pairs}
+use Rattle.pairs.specs.Columns.{downColumn, columns}
+use Rattle.plain.specs.Plain.{comparedIn}
 use Rattle.graph.specs.Counts.{entryAt}
-use Rattle.judging.specs.Order.{EarlierGraph, rowsJoined, matrixWord, FullyDrawn}
+use Rattle.judging.specs.Order.{EarlierGraph, rowsJoined, matrixWord, columnsJoined, columnWord, wordIn, FullyDrawn}
 use Rattle.pairs.proofs.PairLaws.{Mirrored, entryOf, alongRow-append, fromRow-split, along-given, along-has}
 
 module _ (x y : Pair → ℕ) where
@@ -134,12 +140,45 @@ module _ (a b : ℕ → ℕ → ℕ) (a-mirrored : Mirrored a) (b-mirrored : Mir
 mirrored-entries : (g : Graph) → WellFormed g → Mirrored (entry g)
 mirrored-entries g w = record { symmetric = w .symmetric; diagonal = w .no-loop }
 
--- the rules' order is the published one
-pub same-order : (g h : Graph) → WellFormed g → WellFormed h → FullyDrawn g → FullyDrawn h → g .order ≡ h .order → LexLess (matrixWord g) (matrixWord h) ↔ EarlierGraph g h
+-- ---- by rows
+
+-- the rules' order by rows is the published one
+rows-order : (g h : Graph) → WellFormed g → WellFormed h → g .order ≡ h .order → LexLess (matrixWord g) (matrixWord h) ↔ Less (entryAt g) (entryAt h) (pairs (g .order))
 unfolding matrixWord
-same-order g h wg wh fg fh e =
-    Iff·trans
-    (subst (λ (n : ℕ). LexLess (rowsJoined (entry g) (g .order) 1 (g .order)) (rowsJoined (entry h) n 1 n) ↔ Less (entryAt g) (entryAt h) (pairs (g .order))) e
-    (first-above (entry g) (entry h) (mirrored-entries g wg) (mirrored-entries h wh) (g .order)))
-    (Iff·symm
-    (earlier-lexicographic (entryAt g) (entryAt h) (pairs (g .order)) (λ k m. fg .known (k .row) (k .column)) (λ k m. fh .known (k .row) (k .column))))
+rows-order g h wg wh e =
+    subst (λ (n : ℕ). LexLess (rowsJoined (entry g) (g .order) 1 (g .order)) (rowsJoined (entry h) n 1 n) ↔ Less (entryAt g) (entryAt h) (pairs (g .order))) e
+    (first-above (entry g) (entry h) (mirrored-entries g wg) (mirrored-entries h wh) (g .order))
+
+-- ---- by columns
+
+-- a column as a word is the matrix read down the column
+column-word : (a : ℕ → ℕ → ℕ) (j m : ℕ) → listUpTo (λ i. a i j) m ≡ map (entryOf a) (downColumn j m)
+unfolding listUpTo downColumn
+column-word a j zero = refl
+column-word a j (suc m) =
+    ap (λ (r : List ℕ). r ++ (a (suc m) j ∷ [])) (column-word a j m) ∙ sym (map-append (entryOf a) (downColumn j m) (pair (suc m) j ∷ []))
+
+-- and so are columns joined
+columns-word : (a : ℕ → ℕ → ℕ) (n : ℕ) → columnsJoined a n ≡ map (entryOf a) (columns n)
+unfolding columnsJoined columns
+columns-word a zero = refl
+columns-word a (suc n) =
+    ap₂ (λ (v w : List ℕ). v ++ w) (columns-word a n) (column-word a (suc n) n) ∙ sym (map-append (entryOf a) (columns n) (downColumn (suc n) n))
+
+-- so the rules' order by columns is the published one
+columns-order : (g h : Graph) → g .order ≡ h .order → LexLess (columnWord g) (columnWord h) ↔ Less (entryAt g) (entryAt h) (columns (g .order))
+unfolding columnWord
+columns-order g h e =
+    subst₂ (λ (v w : List ℕ). LexLess v w ↔ Less (entryAt g) (entryAt h) (columns (g .order))) (sym (columns-word (entry g) (g .order)))
+    (sym (columns-word (entry h) (g .order)) ∙ ap (columnsJoined (entry h)) e) Iff·rfl
+
+-- ---- in every mode
+
+-- the rules' order is the published one
+pub same-order : (mode : ℕ) (g h : Graph) → WellFormed g → WellFormed h → FullyDrawn g → FullyDrawn h → g .order ≡ h .order → LexLess (wordIn mode g) (wordIn mode h) ↔ EarlierGraph mode g h
+unfolding wordIn comparedIn pick
+same-order mode g h wg wh fg fh e = Iff·trans (at (eqb mode 2)) (Iff·symm (earlier-lexicographic (entryAt g) (entryAt h) (comparedIn mode (g .order)) (λ k m. fg .known (k .row) (k .column)) (λ k m. fh .known (k .row) (k .column))))
+  where
+    at : (b : Bool) → LexLess (pick b (columnWord g) (matrixWord g)) (pick b (columnWord h) (matrixWord h)) ↔ Less (entryAt g) (entryAt h) (pick b (columns (g .order)) (pairs (g .order)))
+    at true = columns-order g h e
+    at false = rows-order g h wg wh e

@@ -12,14 +12,14 @@ use Rattle.judging.proofs.Sound.{written-sound}
 use Rattle.judging.proofs.Least.{least-copy, least-smallest}
 
 -- what has no permitted copy earlier survives
-pub smallest-survives : (h : Graph) → Smallest h → Survives h
-smallest-survives h least g budget buffer f says b =
-    least (judgeAnswer g budget (length buffer) .arrangement) (written-sound g budget buffer says h f b)
+pub smallest-survives : (mode : ℕ) (h : Graph) → Smallest mode h → Survives mode h
+smallest-survives mode h least g budget buffer f says b =
+    least (judgeAnswer mode g budget (length buffer) .arrangement) (written-sound mode g budget buffer says h f b)
 
 -- so the copy that is at or before every permitted copy survives all clauses ever written
-pub least-survives : (h : Graph) → WellFormed h → (q : List ℕ) → LeastBy h q → Survives (relabelled h q)
-least-survives h w q l = smallest-survives (relabelled h q) (least-smallest h w q l)
+pub least-survives : (mode : ℕ) (h : Graph) → WellFormed h → (q : List ℕ) → LeastBy mode h q → Survives mode (relabelled h q)
+least-survives mode h w q l = smallest-survives mode (relabelled h q) (least-smallest mode h w q l)
 
 -- and every fully drawn graph has one
-pub copy-survives : (h : Graph) → WellFormed h → FullyDrawn h → (q : List ℕ) × LeastBy h q × Survives (relabelled h q)
-copy-survives h w d = let s = least-copy h w d in (s .0, s .1, least-survives h w (s .0) (s .1))
+pub copy-survives : (mode : ℕ) (h : Graph) → WellFormed h → FullyDrawn h → (q : List ℕ) × LeastBy mode h q × Survives mode (relabelled h q)
+copy-survives mode h w d = let s = least-copy mode h w d in (s .0, s .1, least-survives mode h w (s .0) (s .1))

@@ -1,10 +1,11 @@
 -- The full answer of judging, and what the lent buffer holds afterwards.
 use Prim.Native.Nat.{ℕ}
+use mathlib.Core.Bool.{Bool}
 use mathlib.Core.List.{List, _++_}
 use lib.IntN.{ℤ}
 use lib.ListN.{length, drop, replicate}
-use lib.Dec.{leb}
-use Rattle.laws.specs.Test.{unless}
+use lib.Dec.{eqb, leb}
+use Rattle.laws.specs.Test.{either, unless}
 use Rattle.walk.specs.Walk.{Outcome, won, lost, still-open}
 use Rattle.beginnings.specs.Search.{Found, cut, none, first}
 use Rattle.graph.specs.declared.Graph.{Graph}
@@ -45,22 +46,27 @@ winningPair lost = pair 0 0
 winningPair still-open = pair 0 0
 
 -- the certificate p with its winning pair and its clause
-unfoldable pub smaller : Graph → List ℕ → ℕ → Judged
-smaller g p steps =
-    let k = winningPair (walkAll g p) in
-    record { verdict = Smaller (k .row) (k .column) steps; arrangement = p; literals = length (clauseOf g p) }
+unfoldable pub smaller : (mode : ℕ) → Graph → List ℕ → ℕ → Judged
+smaller mode g p steps =
+    let k = winningPair (walkAll mode g p) in
+    record { verdict = Smaller (k .row) (k .column) steps; arrangement = p; literals = length (clauseOf mode g p) }
 
-unfoldable pub answerFor : Graph → ℕ → Found → Judged
-answerFor g budget cut = without (Cut budget)
-answerFor g budget (none steps) = without (Nothing steps)
-answerFor g budget (first b steps) = smaller g (certificateOf g b) steps
+unfoldable pub answerFor : (mode : ℕ) → Graph → ℕ → Found → Judged
+answerFor mode g budget cut = without (Cut budget)
+answerFor mode g budget (none steps) = without (Nothing steps)
+answerFor mode g budget (first b steps) = smaller mode g (certificateOf g b) steps
 
--- judging g within the budget, with room for so many literals
-unfoldable pub judgeAnswer : Graph → ℕ → ℕ → Judged
-judgeAnswer g budget room =
-    unless (wellFormed g) (without (Refused 8 0))
+-- the modes: 1 by rows, 2 by columns
+unfoldable pub isMode : ℕ → Bool
+isMode mode = either (eqb mode 1) (eqb mode 2)
+
+-- judging g in a mode within the budget, with room for so many literals
+unfoldable pub judgeAnswer : (mode : ℕ) → Graph → ℕ → ℕ → Judged
+judgeAnswer mode g budget room =
+    unless (isMode mode) (without (Refused 16 0))
+    (unless (wellFormed g) (without (Refused 8 0))
     (unless (leb (pairCount (g .order)) room) (without (Refused 5 0))
-    (answerFor g budget (found g budget)))
+    (answerFor mode g budget (found mode g budget))))
 
 -- ---- the buffer
 
@@ -72,7 +78,7 @@ atStart (Cut steps) lits buffer = buffer
 atStart (Refused number place) lits buffer = buffer
 
 -- what the buffer holds after judging: the clause of the certificate at its start, and nothing after it is changed
-unfoldable pub judgeBuffer : Graph → ℕ → List ℤ → List ℤ
-judgeBuffer g budget buffer =
-    let answer = judgeAnswer g budget (length buffer) in
-    atStart (answer .verdict) (clauseOf g (answer .arrangement)) buffer
+unfoldable pub judgeBuffer : (mode : ℕ) → Graph → ℕ → List ℤ → List ℤ
+judgeBuffer mode g budget buffer =
+    let answer = judgeAnswer mode g budget (length buffer) in
+    atStart (answer .verdict) (clauseOf mode g (answer .arrangement)) buffer

@@ -2,6 +2,7 @@
 use Prim.Native.Nat.{ℕ, _≤_}
 use mathlib.Core.Path.{_≡_}
 use mathlib.Core.Logic.{_⊎_, _≢_}
+use mathlib.Core.Bool.{true}
 use mathlib.Core.List.{List}
 use Rattle.laws.specs.Each.{Each}
 use Rattle.laws.specs.Test.{pick}
@@ -12,10 +13,11 @@ use Rattle.graph.specs.declared.Graph.{Graph}
 use Rattle.graph.specs.Graph.{relabelled}
 use Rattle.graph.specs.WellFormed.{WellFormed}
 use Rattle.arrangements.specs.Arrangement.{Permitted}
-use Rattle.pairs.specs.Pairs.{Pair, Between, pairs, numberOf}
+use Rattle.pairs.specs.Pairs.{Pair, Between, pairs}
 use Rattle.graph.specs.Counts.{entryAt}
 use Rattle.judging.specs.Order.{FullyDrawn, EarlierGraph}
 use Rattle.plain.specs.Plain.{samePair, image}
+use Rattle.plain.specs.Before.{beforeIn}
 use Rattle.judging.specs.Judging.{walkAll}
 
 -- ---- full drawings
@@ -35,27 +37,27 @@ pub record Completes (g h : Graph) : Type 0 where
 -- ---- certificates
 
 -- a permitted arrangement under which every full drawing of the graph has an earlier relabelled copy
-pub record Certified (g : Graph) (p : List ℕ) : Type 0 where
+pub record Certified (mode : ℕ) (g : Graph) (p : List ℕ) : Type 0 where
   pub permitted : Permitted (g .order) (g .starts) p
-  pub earlier : (h : Graph) → Completes g h → EarlierGraph (relabelled h p) h
+  pub earlier : (h : Graph) → Completes g h → EarlierGraph mode (relabelled h p) h
 
 -- p, with the winning pair k, comes first of all of them in dictionary order
-pub record FirstCertified (g : Graph) (p : List ℕ) (k : Pair) : Type 0 where
-  pub certified : Certified g p
-  pub wins : walkAll g p ≡ won k
-  pub earliest : (q : List ℕ) → Certified g q → (q ≡ p) ⊎ Before p q
+pub record FirstCertified (mode : ℕ) (g : Graph) (p : List ℕ) (k : Pair) : Type 0 where
+  pub certified : Certified mode g p
+  pub wins : walkAll mode g p ≡ won k
+  pub earliest : (q : List ℕ) → Certified mode g q → (q ≡ p) ⊎ Before p q
 
 -- ---- the clause
 
--- j is a pair of 1..n and is k or comes before it in row order
-pub record UpTo (n : ℕ) (j k : Pair) : Type 0 where
+-- j is a pair of 1..n and is k or comes before it in the order of the mode
+pub record UpTo (mode n : ℕ) (j k : Pair) : Type 0 where
   pub between : Between 1 n j
-  pub at-most : numberOf n j ≤ numberOf n k
+  pub at-most : (j ≡ k) ⊎ (beforeIn mode j k ≡ true)
 
 -- j was met, other than against itself, up to and with the winning pair k: at its own place, or as the image of i
-pub data MetUpTo (g : Graph) (p : List ℕ) (k j : Pair) : Type 0 where
-  in-place : UpTo (g .order) j k → image p j ≢ j → MetUpTo g p k j
-  as-image : (i : Pair) → UpTo (g .order) i k → image p i ≢ i → j ≡ image p i → MetUpTo g p k j
+pub data MetUpTo (mode : ℕ) (g : Graph) (p : List ℕ) (k j : Pair) : Type 0 where
+  in-place : UpTo mode (g .order) j k → image p j ≢ j → MetUpTo mode g p k j
+  as-image : (i : Pair) → UpTo mode (g .order) i k → image p i ≢ i → j ≡ image p i → MetUpTo mode g p k j
 
 -- what the literals say of the entry at k: 1 where "not k" is one of them, 0 where k is, else nothing
 unfoldable pub saidAt : List (Literal Pair) → Pair → ℕ

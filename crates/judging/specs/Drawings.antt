@@ -20,43 +20,43 @@ use Rattle.judging.specs.Answer.{told, judgeAnswer, judgeBuffer}
 -- ---- drawings and copies
 
 -- the copy of h by p is permitted and strictly earlier than h
-pub record EarlierCopy (h : Graph) (p : List ℕ) : Type 0 where
+pub record EarlierCopy (mode : ℕ) (h : Graph) (p : List ℕ) : Type 0 where
   pub permitted : Permitted (h .order) (h .starts) p
-  pub earlier : EarlierGraph (relabelled h p) h
+  pub earlier : EarlierGraph mode (relabelled h p) h
 
 -- no permitted copy of g is strictly earlier
-abbrev pub Smallest : Graph → Type 0
-Smallest g = (p : List ℕ) → ¬ EarlierCopy g p
+abbrev pub Smallest : (mode : ℕ) → Graph → Type 0
+Smallest mode g = (p : List ℕ) → ¬ EarlierCopy mode g p
 
 -- q is permitted for h, and the copy by it is at or before every permitted copy
-pub record LeastBy (h : Graph) (q : List ℕ) : Type 0 where
+pub record LeastBy (mode : ℕ) (h : Graph) (q : List ℕ) : Type 0 where
   pub permitted : Permitted (h .order) (h .starts) q
-  pub least : (p : List ℕ) → Permitted (h .order) (h .starts) p → (relabelled h q ≡ relabelled h p) ⊎ EarlierGraph (relabelled h q) (relabelled h p)
+  pub least : (p : List ℕ) → Permitted (h .order) (h .starts) p → (relabelled h q ≡ relabelled h p) ⊎ EarlierGraph mode (relabelled h q) (relabelled h p)
 
 -- ---- clauses
 
 -- every literal of p's clause for g is false in h
-abbrev pub BrokenBy : Graph → List ℕ → Graph → Type 0
-BrokenBy g p h = BreaksClause (pairs (g .order)) (clauseOf g p) (entryAt h)
+abbrev pub BrokenBy : (mode : ℕ) → Graph → List ℕ → Graph → Type 0
+BrokenBy mode g p h = BreaksClause (pairs (g .order)) (clauseOf mode g p) (entryAt h)
 
 -- z is needed among these numbers: there is a full drawing of g's order and blocks in which every other one is false, and whose copy by p
 -- is not earlier
-pub record Needs (g : Graph) (p : List ℕ) (numbers : List ℤ) (z : ℤ) : Type 0 where
+pub record Needs (mode : ℕ) (g : Graph) (p : List ℕ) (numbers : List ℤ) (z : ℤ) : Type 0 where
   pub drawing : Graph
   pub full : FullGraph (g .order) (g .starts) drawing
   pub others-false : Each (λ y. y ≢ z → FalseAt (pairs (g .order)) (entryAt drawing) y) numbers
-  pub not-earlier : ¬ EarlierGraph (relabelled drawing p) drawing
+  pub not-earlier : ¬ EarlierGraph mode (relabelled drawing p) drawing
 
 -- judging g says "smaller"
-abbrev pub SaysSmaller : Graph → ℕ → List ℤ → Type 0
-SaysSmaller g budget buffer = told (judgeAnswer g budget (length buffer) .verdict) .kind ≡ 1
+abbrev pub SaysSmaller : (mode : ℕ) → Graph → ℕ → List ℤ → Type 0
+SaysSmaller mode g budget buffer = told (judgeAnswer mode g budget (length buffer) .verdict) .kind ≡ 1
 
 -- the literals that it writes at the buffer's start
-abbrev pub written : Graph → ℕ → List ℤ → List ℤ
-written g budget buffer = take (judgeAnswer g budget (length buffer) .literals) (judgeBuffer g budget buffer)
+abbrev pub written : (mode : ℕ) → Graph → ℕ → List ℤ → List ℤ
+written mode g budget buffer = take (judgeAnswer mode g budget (length buffer) .literals) (judgeBuffer mode g budget buffer)
 
--- h breaks nothing that judging writes for a graph of its order and blocks, with any budget and any buffer
-abbrev pub Survives : Graph → Type 0
-Survives h =
-    (g : Graph) (budget : ℕ) (buffer : List ℤ) → FullGraph (g .order) (g .starts) h → SaysSmaller g budget buffer
-    → ¬ BreaksClause (pairs (g .order)) (written g budget buffer) (entryAt h)
+-- h breaks nothing that judging in this one mode writes for a graph of its order and blocks, with any budget and any buffer
+abbrev pub Survives : (mode : ℕ) → Graph → Type 0
+Survives mode h =
+    (g : Graph) (budget : ℕ) (buffer : List ℤ) → FullGraph (g .order) (g .starts) h → SaysSmaller mode g budget buffer
+    → ¬ BreaksClause (pairs (g .order)) (written mode g budget buffer) (entryAt h)

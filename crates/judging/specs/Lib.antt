@@ -4,3 +4,4 @@ pub mod Answer
 pub mod Certificates
 pub mod InWords
 pub mod Drawings
+pub mod FirstVertices

@@ -1,2 +1,4 @@
 pub mod KindLaws
+pub mod PlaceLaws
+pub mod ReachedLaws
 pub mod ColumnLaws

@@ -3,7 +3,7 @@ use Prim.Native.Nat.{ℕ, zero, suc, _+_, _≤_, _<_}
 use native.Mathlib.Omega.{arith}
 use mathlib.Core.Path.{_≡_, refl, sym, ap, _∙_}
 use mathlib.Core.Logic.{⊎-elim}
-use mathlib.Core.List.{List, [], _∷_, _++_, map, List·Memᴰ, List·Memᴰ·head, List·Memᴰ·tail, List·Memᴰ·cases-cons, List·Memᴰ·not-nil, Memᴰ·map}
+use mathlib.Core.List.{List, [], _∷_, _++_, map, List·Memᴰ, List·Memᴰ·head, List·Memᴰ·tail, List·Memᴰ·cases-cons, List·Memᴰ·not-nil, List·Memᴰ·append-cases, Memᴰ·map}
 use lib.ListN.{length, getD}
 use Rattle.laws.specs.UpTo.{listUpTo}
 
@@ -38,6 +38,19 @@ pub no-repeats-of-map : {A B : Type 0} (f : A → B) (l : List A) → NoRepeats 
 unfolding NoRepeats
 no-repeats-of-map f [] h = tt
 no-repeats-of-map f (x ∷ l) h = (λ m. h .0 (Memᴰ·map f m), no-repeats-of-map f l (h .1))
+
+pub no-repeats-one : {A : Type 0} (x : A) → NoRepeats (x ∷ [])
+unfolding NoRepeats
+no-repeats-one x = (λ m. List·Memᴰ·not-nil m, tt)
+
+-- nor do two lists joined that have no element in common
+pub no-repeats-append : {A : Type 0} (xs ys : List A) → NoRepeats xs → NoRepeats ys → ((x : A) → List·Memᴰ x xs → List·Memᴰ x ys → ⊥) → NoRepeats (xs ++ ys)
+unfolding NoRepeats
+no-repeats-append [] ys a b apart = b
+no-repeats-append {A} (x ∷ xs) ys a b apart = (
+  λ m. ⊎-elim (λ (l : List·Memᴰ x xs). a .0 l) (λ (r : List·Memᴰ x ys). apart x (List·Memᴰ·head refl) r) (List·Memᴰ·append-cases xs m),
+  no-repeats-append xs ys (a .1) b (λ y l r. apart y (List·Memᴰ·tail l) r),
+)
 
 -- ---- numbers that follow one another
 

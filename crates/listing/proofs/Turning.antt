@@ -17,7 +17,7 @@ use Rattle.judging.specs.Answer.{without, judgeAnswer, judgeBuffer}
 use Rattle.text.specs.Page.{poured}
 use Rattle.line.specs.Line.{judgedLine}
 use Rattle.line.proofs.Room.{line-room}
-use Rattle.listing.specs.Listing.{budget, scratch, judgedRecord, literalsOf, recordLine}
+use Rattle.listing.specs.Listing.{mode, budget, scratch, judgedRecord, literalsOf, recordLine}
 use Rattle.listing.specs.Progress.{Put}
 use Rattle.listing.proofs.Book.{order-small}
 
@@ -29,17 +29,17 @@ module _ (found : Record) (r : Judged) (buffer out : List ℤ) where
   unfolding judgedRecord literalsOf
   answers-refused h e k =
       let t = ne-eqb (found .refusal) 0 h in (
-        e ∙ sym (pick-false (eqb (found .refusal) 0) (judgeAnswer (found .graph) budget (length buffer)) (without (Refused (found .refusal) (found .place))) t),
-        k ∙ sym (pick-false (eqb (found .refusal) 0) (judgeBuffer (found .graph) budget buffer) buffer t),
+        e ∙ sym (pick-false (eqb (found .refusal) 0) (judgeAnswer mode (found .graph) budget (length buffer)) (without (Refused (found .refusal) (found .place))) t),
+        k ∙ sym (pick-false (eqb (found .refusal) 0) (judgeBuffer mode (found .graph) budget buffer) buffer t),
       )
 
   -- a record that was read
-  pub answers-judged : found .refusal ≡ 0 → (r ≡ judgeAnswer (found .graph) budget (length buffer)) × (out ≡ judgeBuffer (found .graph) budget buffer) → (r ≡ judgedRecord found (length buffer)) × (out ≡ literalsOf found buffer)
+  pub answers-judged : found .refusal ≡ 0 → (r ≡ judgeAnswer mode (found .graph) budget (length buffer)) × (out ≡ judgeBuffer mode (found .graph) budget buffer) → (r ≡ judgedRecord found (length buffer)) × (out ≡ literalsOf found buffer)
   unfolding judgedRecord literalsOf
   answers-judged h e =
       let t = eq-eqb (found .refusal) 0 h in (
-        e .0 ∙ sym (pick-true (eqb (found .refusal) 0) (judgeAnswer (found .graph) budget (length buffer)) (without (Refused (found .refusal) (found .place))) t),
-        e .1 ∙ sym (pick-true (eqb (found .refusal) 0) (judgeBuffer (found .graph) budget buffer) buffer t),
+        e .0 ∙ sym (pick-true (eqb (found .refusal) 0) (judgeAnswer mode (found .graph) budget (length buffer)) (without (Refused (found .refusal) (found .place))) t),
+        e .1 ∙ sym (pick-true (eqb (found .refusal) 0) (judgeBuffer mode (found .graph) budget buffer) buffer t),
       )
 
 -- ---- what follows the record

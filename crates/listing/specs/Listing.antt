@@ -12,6 +12,10 @@ use Rattle.judging.specs.declared.Judged.{Judged}
 use Rattle.judging.specs.Answer.{without, judgeAnswer, judgeBuffer}
 use Rattle.line.specs.Line.{headerText, judgedLine}
 
+-- it judges by rows
+abbrev pub mode : ℕ
+mode = 1
+
 -- how many steps judging may take
 abbrev pub budget : ℕ
 budget = 1000000
@@ -23,11 +27,11 @@ scratch = replicate 496 (pos 0)
 -- the judgement of a record that was read, or its refusal
 unfoldable pub judgedRecord : Record → ℕ → Judged
 judgedRecord found room =
-    pick (eqb (found .refusal) 0) (judgeAnswer (found .graph) budget room) (without (Refused (found .refusal) (found .place)))
+    pick (eqb (found .refusal) 0) (judgeAnswer mode (found .graph) budget room) (without (Refused (found .refusal) (found .place)))
 
 -- the room for literals afterwards
 unfoldable pub literalsOf : Record → List ℤ → List ℤ
-literalsOf found buffer = pick (eqb (found .refusal) 0) (judgeBuffer (found .graph) budget buffer) buffer
+literalsOf found buffer = pick (eqb (found .refusal) 0) (judgeBuffer mode (found .graph) budget buffer) buffer
 
 -- the line of the record at the start of the bytes s
 unfoldable pub recordLine : ℕ → List ℕ → List ℕ

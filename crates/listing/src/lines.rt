@@ -42,7 +42,7 @@ fn judged_record(found: Record, literals: &mut [i32]) -> Judged
         return refused(found.refusal, found.place);
     }
     let graph = found.graph;
-    search::judge(graph, 1000000, literals)
+    search::judge(graph, 1, 1000000, literals)
 }
 
 // Puts the line of the record at the start of bytes at the start of out.

@@ -3,11 +3,11 @@ use Prim.Native.Nat.{ℕ}
 use native.Mathlib.Omega.{arith}
 use mathlib.Core.Path.{_≡_, refl, sym, _∙_, ap}
 use mathlib.Core.Bool.{Bool, true, false}
-use mathlib.Core.List.{List, [], _∷_, _++_, List·Memᴰ}
+use mathlib.Core.List.{List, [], _∷_, _++_, append-assoc, List·Memᴰ, List·Memᴰ·head, Memᴰ·append-right}
 use lib.Dec.{eqb}
 use Rattle.laws.specs.Test.{pick}
 use Rattle.laws.specs.Each.{Each, each-first, each-rest}
-use Rattle.laws.specs.ListLaws.{NoRepeats}
+use Rattle.laws.specs.ListLaws.{NoRepeats, mem-split}
 use Rattle.walk.specs.Clause.{Literal, absent, present, pairIn}
 use Rattle.walk.specs.Meeting.{literalAt, literalsOf}
 use Rattle.needed.specs.Kept.{those}
@@ -17,6 +17,12 @@ pub not-later : {A : Type 0} (xs : List A) (k : A) (ys : List A) → NoRepeats (
 unfolding NoRepeats
 not-later [] k ys h m = h .0 m
 not-later (x ∷ xs) k ys h m = not-later xs k ys (h .1) m
+
+-- where j stands after no k, no k stands before j
+pub not-earlier : {A : Type 0} (ns : List A) (j k : A) → ((us ys : List A) → ns ≡ us ++ k ∷ ys → ¬ List·Memᴰ j ys) → (us ys : List A) → ns ≡ us ++ j ∷ ys → ¬ List·Memᴰ k us
+not-earlier {A} ns j k after us ys e m =
+    let s = mem-split k us m in
+    after (s .0) (s .1 ++ j ∷ ys) (e ∙ ap (λ (l : List A). l ++ j ∷ ys) (s .2) ∙ append-assoc (s .0) (k ∷ s .1) (j ∷ ys)) (Memᴰ·append-right (s .1) (List·Memᴰ·head refl))
 
 -- where the literals of ns split, ns does
 pub record SplitAt {P : Type 0} (x : P → ℕ) (ns : List P) (ls : List (Literal P)) (l : Literal P) (rs : List (Literal P)) : Type 0 where

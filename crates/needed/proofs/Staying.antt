@@ -160,6 +160,15 @@ module _ {P : Type 0} {same before : P → P → Bool} {img src : P → P} {ks :
     stays-known (edge-stays x y z) = omega arith
     stays-known (gap-stays x y z) = omega arith
 
+    -- one that stays with one left out stays with none left out
+    pub stays-all : (a b : Bool) → stays before src v w a b k ≡ true → stays before src v w false false k ≡ true
+    unfolding upTo pick
+    stays-all a b e = stays-tells false false k .1 (at (stays-tells a b k .0 e))
+      where
+        at : Stays a b k → Stays false false k
+        at (edge-stays x y z) = edge-stays x y (ap not (upto-not-after a k m z))
+        at (gap-stays x y z) = gap-stays x y (ap not (upto-not-after b (src k) (t .source-in k m) z))
+
     -- and each stays that is met, is known, and where an unknown one would be driven to the other value
     pub other-stays : List·Memᴰ k (met same img ks v) → v k ≤ 1 → v k ≢ drivenTo before src k → stays before src v w false false k ≡ true
     unfolding drivenTo upTo pick

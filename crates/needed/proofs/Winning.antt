@@ -5,7 +5,7 @@ use native.Mathlib.Decide.{ℕ-discrete, decLe}
 use mathlib.Core.Path.{_≡_, refl, sym, _∙_, ap}
 use mathlib.Core.Logic.{_⊎_, inl, inr, _≢_}
 use mathlib.Core.Bool.{Bool, true, false, true≢false}
-use mathlib.Core.List.{List, [], List·Memᴰ}
+use mathlib.Core.List.{List, List·Memᴰ}
 use Rattle.laws.specs.Test.{pick}
 use Rattle.laws.specs.TestLaws.{fails}
 use Rattle.walk.specs.Walk.{walk}

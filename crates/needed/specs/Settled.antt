@@ -26,12 +26,13 @@ pub record WonWalk {P : Type 0} (same before : P → P → Bool) (img src : P �
   pub turned : Turned same before img src ks
   pub wins : walk same img ks v ≡ won w
 
--- a numbering of them, each once, in which the image of w does not come before w where it is compared after it
-pub record NumberedBy {P : Type 0} (before : P → P → Bool) (img : P → P) (ks : List P) (w : P) (numbering : List P) : Type 0 where
+-- a numbering of them, each once; the flag tells which of w and its image has the higher number: the image where it holds, else w
+pub record NumberedBy {P : Type 0} (img : P → P) (ks : List P) (w : P) (image-last : Bool) (numbering : List P) : Type 0 where
   pub all : Each (λ k. List·Memᴰ k numbering) ks
   pub inside : Each (λ k. List·Memᴰ k ks) numbering
   pub once : NoRepeats numbering
-  pub rising : before w (img w) ≡ true → (us ys : List P) → numbering ≡ us ++ img w ∷ ys → ¬ List·Memᴰ w ys
+  pub image-higher : image-last ≡ true → (us ys : List P) → numbering ≡ us ++ img w ∷ ys → ¬ List·Memᴰ w ys
+  pub pair-higher : image-last ≡ false → (us ys : List P) → numbering ≡ us ++ w ∷ ys → ¬ List·Memᴰ (img w) ys
 
 -- k comes before w; or it is w, unless that is left out
 unfoldable pub upTo : {P : Type 0} → (P → P → Bool) → (without : Bool) → P → P → Bool
@@ -60,14 +61,23 @@ module _ {P : Type 0} (before : P → P → Bool) (src : P → P) where
 
 -- ---- the two that may go
 
--- what may be dropped of these: the entry at the image of w, where the walk is won without it, or else that at w, where it is won without that
+-- what may be dropped of these: the entry at w or that at its image, where the walk is won without it, and never both
 module _ {P : Type 0} (same before : P → P → Bool) (img src : P → P) (ks : List P) (v : P → ℕ) (w : P) where
   -- the walk is won by the entries that stay
   unfoldable pub winsBy : (without-pair without-image : Bool) → Bool
   winsBy without-pair without-image = isWon (walk same img ks (staying before src v w without-pair without-image))
 
-  unfoldable pub imageGoes : Bool
-  imageGoes = both (stays before src v w false false (img w)) (winsBy false true)
+  -- the entry at the image of w is needed to come to w and to win there, and the walk is won without it
+  unfoldable pub imageMay : Bool
+  imageMay = both (stays before src v w false false (img w)) (winsBy false true)
 
-  unfoldable pub pairGoes : Bool
-  pairGoes = both (not imageGoes) (both (stays before src v w false false w) (winsBy true false))
+  -- and that at w
+  unfoldable pub pairMay : Bool
+  pairMay = both (stays before src v w false false w) (winsBy true false)
+
+  -- the one with the higher number is tried first, and the other where that one stays
+  unfoldable pub imageGoes : (image-last : Bool) → Bool
+  imageGoes image-last = both imageMay (either image-last (not pairMay))
+
+  unfoldable pub pairGoes : (image-last : Bool) → Bool
+  pairGoes image-last = both pairMay (not (both image-last imageMay))

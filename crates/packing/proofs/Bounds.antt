@@ -11,7 +11,7 @@ use Rattle.pairs.specs.Pairs.{pairCount}
 use Rattle.pairs.proofs.PairLaws.{pairCount-mono}
 use Rattle.judging.specs.declared.Judged.{Judged}
 use Rattle.judging.specs.Answer.{told, without, judgeAnswer}
-use Rattle.judging.specs.InWords.{InWords, malformed, cramped, cut-off, none-smaller, found-smaller}
+use Rattle.judging.specs.InWords.{InWords, unknown-mode, malformed, cramped, cut-off, none-smaller, found-smaller}
 use Rattle.judging.proofs.Exact.{judged-in-words}
 use Rattle.judging.proofs.Buffer.{clause-fits}
 use Rattle.judging.proofs.Literals.{winning-between}
@@ -37,24 +37,25 @@ pub record Bounded (budget : ℕ) (a : Judged) : Type 0 where
   pub column-small : told (a .verdict) .column ≤ 32
   pub literals-few : a .literals ≤ 496
   pub kind-small : told (a .verdict) .kind ≤ 3
-  pub refusal-small : told (a .verdict) .refusal ≤ 8
+  pub refusal-small : told (a .verdict) .refusal ≤ 16
   pub steps-within : told (a .verdict) .steps ≤ budget
   pub place-small : told (a .verdict) .place ≤ 496
 
 -- judging a graph value stays within these
-pub judged-bounded : (g : Graph) (budget room : ℕ) → Bounded budget (judgeAnswer g budget room)
+pub judged-bounded : (mode : ℕ) (g : Graph) (budget room : ℕ) → Bounded budget (judgeAnswer mode g budget room)
 unfolding told without
-judged-bounded g budget room = at (judged-in-words g budget room)
+judged-bounded mode g budget room = at (judged-in-words mode g budget room)
   where
-    at : {a : Judged} → InWords g budget room a → Bounded budget a
-    at (malformed no-graph) = omega arith
-    at (cramped w h) = omega arith
-    at (cut-off w h l) = omega arith
-    at (none-smaller w h l nowhere) = omega arith
-    at (found-smaller w h l {p} {k} f) =
-        let b = winning-between g p k (f .wins) in
-        let few = clause-fits g p in
-        let most : pairCount (g .order) ≤ 496 = pairCount-mono (g .order) 32 (w .order-high) in
+    at : {a : Judged} → InWords mode g budget room a → Bounded budget a
+    at (unknown-mode no-mode) = omega arith
+    at (malformed m no-graph) = omega arith
+    at (cramped m w h) = omega arith
+    at (cut-off t l) = omega arith
+    at (none-smaller t l nowhere) = omega arith
+    at (found-smaller t l {p} {k} f) =
+        let b = winning-between mode g p k (f .wins) in
+        let few = clause-fits mode g p in
+        let most : pairCount (g .order) ≤ 496 = pairCount-mono (g .order) 32 (t .formed .order-high) in
         record {
           row-small = omega arith;
           column-small = omega arith;

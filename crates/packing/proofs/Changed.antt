@@ -10,7 +10,7 @@ use Rattle.judging.specs.declared.Verdict.{Verdict}
 use Rattle.judging.specs.declared.Verdict.the-variants.{Smaller, Nothing, Cut, Refused}
 use Rattle.judging.specs.declared.Judged.{Judged}
 use Rattle.judging.specs.Answer.{told, without, judgeAnswer}
-use Rattle.judging.specs.InWords.{InWords, malformed, cramped, cut-off, none-smaller, found-smaller}
+use Rattle.judging.specs.InWords.{InWords, unknown-mode, malformed, cramped, cut-off, none-smaller, found-smaller}
 use Rattle.judging.proofs.Exact.{judged-in-words}
 use Rattle.packing.specs.Telling.{arrangedBy, arrangedAfter}
 
@@ -41,13 +41,14 @@ unfolding arrangedAfter
 arrangement-written a lent e = by-smaller (a .verdict) (a .arrangement) lent e
 
 -- which is 32 numbers
-pub arrangement-whole : (g : Graph) (budget room : ℕ) → length (judgeAnswer g budget room .arrangement) ≡ 32
+pub arrangement-whole : (mode : ℕ) (g : Graph) (budget room : ℕ) → length (judgeAnswer mode g budget room .arrangement) ≡ 32
 unfolding without
-arrangement-whole g budget room = at (judged-in-words g budget room)
+arrangement-whole mode g budget room = at (judged-in-words mode g budget room)
   where
-    at : {a : Judged} → InWords g budget room a → length (a .arrangement) ≡ 32
-    at (malformed no-graph) = refl
-    at (cramped w h) = refl
-    at (cut-off w h l) = refl
-    at (none-smaller w h l nowhere) = refl
-    at (found-smaller w h l f) = f .certified .permitted .reordering .long
+    at : {a : Judged} → InWords mode g budget room a → length (a .arrangement) ≡ 32
+    at (unknown-mode no-mode) = refl
+    at (malformed m no-graph) = refl
+    at (cramped m w h) = refl
+    at (cut-off t l) = refl
+    at (none-smaller t l nowhere) = refl
+    at (found-smaller t l f) = f .certified .permitted .reordering .long

@@ -15,17 +15,17 @@ use Rattle.packing.specs.Telling.{Judgement, arrangedBy, arrangedAfter}
 use Rattle.packing.proofs.Bounds.{Bounded, judged-bounded}
 
 -- what judging a graph value answers is a judgement
-pub is-judgement : (g : Graph) (budget room : ℕ) (a : Judged) → a ≡ judgeAnswer g budget room → Judgement a
-is-judgement g budget room a e = record { graph = g; budget = budget; room = room; is-answer = e }
+pub is-judgement : (mode : ℕ) (g : Graph) (budget room : ℕ) (a : Judged) → a ≡ judgeAnswer mode g budget room → Judgement a
+is-judgement mode g budget room a e = record { mode = mode; graph = g; budget = budget; room = room; is-answer = e }
 
 module _ (a : Judged) (j : Judgement a) where
   -- what is told is bounded
   bounded : Bounded (j .budget) a
-  bounded = rw (j .is-answer) (judged-bounded (j .graph) (j .budget) (j .room))
+  bounded = rw (j .is-answer) (judged-bounded (j .mode) (j .graph) (j .budget) (j .room))
 
   -- without "smaller" no literal is written
   none-written : told (a .verdict) .kind ≢ 1 → a .literals ≡ 0
-  none-written ne = ap (λ (x : Judged). x .literals) (j .is-answer) ∙ zeros-beside (j .graph) (j .budget) (j .room) (rw (j .is-answer) at ne) .1
+  none-written ne = ap (λ (x : Judged). x .literals) (j .is-answer) ∙ zeros-beside (j .mode) (j .graph) (j .budget) (j .room) (rw (j .is-answer) at ne) .1
 
   -- how many are written fits 9 bits
   pub literals-fit : a .literals < 512

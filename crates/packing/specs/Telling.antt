@@ -10,10 +10,11 @@ use Rattle.judging.specs.Answer.{judgeAnswer}
 
 -- what judging some graph value answers
 pub record Judgement (a : Judged) : Type 0 where
+  pub mode : ℕ
   pub graph : Graph
   pub budget : ℕ
   pub room : ℕ
-  pub is-answer : a ≡ judgeAnswer graph budget room
+  pub is-answer : a ≡ judgeAnswer mode graph budget room
 
 -- the certificate where the verdict is smaller, else what it held
 unfoldable pub arrangedBy : Verdict → List ℕ → List ℕ → List ℕ

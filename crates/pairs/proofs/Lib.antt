@@ -1,3 +1,4 @@
 pub mod PairLaws
+pub mod ColumnLaws
 pub mod Products
 pub mod VertexLaws

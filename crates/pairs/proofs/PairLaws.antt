@@ -8,7 +8,7 @@ use mathlib.Core.List.{List, _∷_, _++_, map, append-assoc, List·Memᴰ, List�
 use lib.ListN.{length, getD, drop, length-append, length-drop, List·getD-map}
 use lib.Seq.{drop-append-le, drop-append-seam, drop-drop, getD-drop, getD-append-seam}
 use Rattle.laws.specs.UpTo.{listUpTo}
-use Rattle.laws.specs.ListLaws.{map-append, getD-mem, mem-split, NoRepeats, no-repeats-of-map, countUp, countUp-append, countUp-getD, countUp-upTo, countUp-no-repeats}
+use Rattle.laws.specs.ListLaws.{map-append, getD-mem, NoRepeats, no-repeats-of-map, countUp, countUp-append, countUp-getD, countUp-upTo, countUp-no-repeats}
 use Rattle.pairs.specs.Pairs.{Pair, pair, Between, alongRow, fromRow, pairs, pairCount, number, numberOf, pairOf}
 
 -- ---- matrices
@@ -305,14 +305,6 @@ split-number n k before after e =
     ap₂ (λ (x : ℕ) (ks : List Pair). getD ks x (pair 0 0)) at e ∙ getD-append-seam before k after (pair 0 0) in
     let long : pairCount n ≡ length before + suc (length after) = sym (pairs-length n) ∙ ap length e ∙ length-append before (k ∷ after) in
     ap (numberOf n) (sym here) ∙ number-pairOf n (suc (length before)) (omega arith) (omega arith)
-
--- and each pair before k has a smaller number
-pub before-smaller : (n : ℕ) (k : Pair) (before after : List Pair) → pairs n ≡ before ++ k ∷ after → (j : Pair) → List·Memᴰ j before → numberOf n j < numberOf n k
-before-smaller n k before after e j m =
-    let s = mem-split j before m in
-    let long : length before ≡ length (s .0) + suc (length (s .1)) = ap length (s .2) ∙ length-append (s .0) (j ∷ s .1) in
-    let whole : pairs n ≡ s .0 ++ j ∷ (s .1 ++ k ∷ after) = e ∙ ap (λ (l : List Pair). l ++ k ∷ after) (s .2) ∙ append-assoc (s .0) (j ∷ s .1) (k ∷ after) in
-    rw (split-number n k before after e, split-number n j (s .0) (s .1 ++ k ∷ after) whole) (omega arith)
 
 -- ---- row 1 is the start of row order
 

@@ -64,15 +64,15 @@ earlier-told a b c d t =
     (λ (x : both (eqb a c) (ltb b d) ≡ true). inr (eqb-true a c (both-first (eqb a c) (ltb b d) x), ltb-true b d (both-second (eqb a c) (ltb b d) x)))
     (one-holds (ltb a c) (both (eqb a c) (ltb b d)) t)
 
-earlier-first : (a b c d : ℕ) → a < c → earlierOf a b c d ≡ true
+pub earlier-first : (a b c d : ℕ) → a < c → earlierOf a b c d ≡ true
 unfolding earlierOf
 earlier-first a b c d l = either-first (ltb a c) (both (eqb a c) (ltb b d)) (lt-ltb a c l)
 
-earlier-second : (a b c d : ℕ) → a ≡ c → b < d → earlierOf a b c d ≡ true
+pub earlier-second : (a b c d : ℕ) → a ≡ c → b < d → earlierOf a b c d ≡ true
 unfolding earlierOf
 earlier-second a b c d e l = either-second (ltb a c) (both (eqb a c) (ltb b d)) (both-hold (eqb a c) (ltb b d) (eq-eqb a c e) (lt-ltb b d l))
 
-earlier-never : (a b c d : ℕ) → earlierOf a b c d ≡ true → earlierOf c d a b ≡ true → ⊥
+pub earlier-never : (a b c d : ℕ) → earlierOf a b c d ≡ true → earlierOf c d a b ≡ true → ⊥
 earlier-never a b c d s t = go (earlier-told a b c d s) (earlier-told c d a b t)
   where
     go : (a < c) ⊎ ((a ≡ c) × (b < d)) → (c < a) ⊎ ((c ≡ a) × (d < b)) → ⊥
@@ -81,11 +81,11 @@ earlier-never a b c d s t = go (earlier-told a b c d s) (earlier-told c d a b t)
     go (inr x) (inl y) = omega arith
     go (inr x) (inr y) = omega arith
 
-whole-of : (j : Pair) → 1 ≤ j .row → 1 ≤ j .column → isWhole j ≡ true
+pub whole-of : (j : Pair) → 1 ≤ j .row → 1 ≤ j .column → isWhole j ≡ true
 unfolding isWhole
 whole-of j r c = both-hold (ltb 0 (j .row)) (ltb 0 (j .column)) (lt-ltb 0 (j .row) r) (lt-ltb 0 (j .column) c)
 
-whole-not : (j : Pair) → (j .row ≡ 0) ⊎ (j .column ≡ 0) → isWhole j ≡ false
+pub whole-not : (j : Pair) → (j .row ≡ 0) ⊎ (j .column ≡ 0) → isWhole j ≡ false
 unfolding isWhole
 whole-not j (inl e) = first-fails (ltb 0 (j .row)) (ltb 0 (j .column)) (le-ltb 0 (j .row) (omega arith))
 whole-not j (inr e) = second-fails (ltb 0 (j .row)) (ltb 0 (j .column)) (le-ltb 0 (j .column) (omega arith))
@@ -112,7 +112,7 @@ unfolding rowBefore
 row-along j k r c e l = both-hold (isWhole j) _ (whole-of j r c) (earlier-second (j .row) (j .column) (k .row) (k .column) e l)
 
 -- a pair with a vertex 0 comes before none
-blank-two : (u v : ℕ) → (u ≡ 0) ⊎ (v ≡ 0) → pairOfTwo u v .row ≡ 0
+pub blank-two : (u v : ℕ) → (u ≡ 0) ⊎ (v ≡ 0) → pairOfTwo u v .row ≡ 0
 blank-two u v z =
     by-below u v (λ (l : u < v). ap (λ k. k .row) (two-rising u v l) ∙ low z l) (λ (l : v ≤ u). ap (λ k. k .row) (two-falling u v l) ∙ high z l)
   where

@@ -1,3 +1,5 @@
 pub mod Plain
 pub mod Before
+pub mod Columns
+pub mod Modes
 pub mod RowOne

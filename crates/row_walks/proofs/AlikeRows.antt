@@ -17,6 +17,7 @@ use Rattle.words.specs.Placed.{row}
 use Rattle.rows.proofs.Standing.{or-none}
 use Rattle.arrangements.specs.Arrangement.{at}
 use Rattle.pairs.specs.Pairs.{Pair, pair, alongRow}
+use Rattle.plain.specs.Before.{rowBefore}
 use Rattle.turns.specs.Turns.{allMarks, turnAt, walkCode, Arranged, Places}
 use Rattle.row_walks.specs.RowWords.{turnWith, Later, Alike}
 use Rattle.turns.proofs.Ones.{ones-bit, all-bits}
@@ -129,27 +130,27 @@ row-open t i j (suc m) h =
 module _ (e w p q : List ℕ) (n i u ones doubts marks hidden : ℕ) (pu : u ≡ at p i) (po : ones ≡ row e i) (pd : doubts ≡ row w i) (pm : marks ≡ row e u) (ph : hidden ≡ row w u) where
   -- a row goes on where nothing in it is unknown and each edge bit is as that of the vertex there
   row-open-from : ((k : ℕ) → i < k → k ≤ n → (bit doubts (k - 1) ≡ 0) × (bit hidden (at p k - 1) ≡ 0) × (bit ones (k - 1) ≡ bit marks (at p k - 1)))
-      → 0 ≡ walkCode (turnAt e w p q) (alongRow i (i + 1) (n + 1 - (i + 1)))
+      → 0 ≡ walkCode (turnAt rowBefore e w p q) (alongRow i (i + 1) (n + 1 - (i + 1)))
   row-open-from same =
       sym
-      (row-open (turnAt e w p q) i (i + 1) (n + 1 - (i + 1))
+      (row-open (turnAt rowBefore e w p q) i (i + 1) (n + 1 - (i + 1))
       (λ k l h.
       let s = same k (omega arith) (omega arith) in
       sym
-      (turn-is e w p q i k u (at p k) ones doubts marks hidden 0 pu refl po pd pm ph
-      (turn-by-rows ones doubts marks hidden i k u (at p k) (at q i) (at q k) (bit ones (k - 1)) (bit marks (at p k - 1)) 0
+      (turn-is rowBefore e w p q i k u (at p k) ones doubts marks hidden 0 pu refl po pd pm ph
+      (turn-by-rows rowBefore ones doubts marks hidden i k u (at p k) (at q i) (at q k) (bit ones (k - 1)) (bit marks (at p k - 1)) 0
       (count-known (bit ones (k - 1)) (bit doubts (k - 1)) _ (s .0))
       (count-known (bit marks (at p k - 1)) (bit hidden (at p k - 1)) _ (s .1))
       (turn-same (bit ones (k - 1)) (bit marks (at p k - 1)) i k u (at p k) (s .2))))))
 
   -- an alike row does
-  alike-open : (mask : ℕ) → Later n i p mask → Alike n i ones doubts marks hidden mask → 0 ≡ walkCode (turnAt e w p q) (alongRow i (i + 1) (n + 1 - (i + 1)))
+  alike-open : (mask : ℕ) → Later n i p mask → Alike n i ones doubts marks hidden mask → 0 ≡ walkCode (turnAt rowBefore e w p q) (alongRow i (i + 1) (n + 1 - (i + 1)))
   alike-open mask s a =
       row-open-from (λ k l h. let there = s .has k l h in (a .known k l h, a .known-there (at p k - 1) there, a .same k (at p k - 1) l h there))
 
 -- so it is passed, whatever the places
 pub alike-passes : (e w p : List ℕ) (n i u ones doubts marks hidden mask : ℕ) → u ≡ at p i → ones ≡ row e i → doubts ≡ row w i → marks ≡ row e u → hidden ≡ row w u → Later n i p mask
-    → (b : Bool) → (b ≡ true → Alike n i ones doubts marks hidden mask) → b ≡ true → (q : List ℕ) → 0 ≡ walkCode (turnAt e w p q) (alongRow i (i + 1) (n + 1 - (i + 1)))
+    → (b : Bool) → (b ≡ true → Alike n i ones doubts marks hidden mask) → b ≡ true → (q : List ℕ) → 0 ≡ walkCode (turnAt rowBefore e w p q) (alongRow i (i + 1) (n + 1 - (i + 1)))
 alike-passes e w p n i u ones doubts marks hidden mask pu po pd pm ph s b f t q = alike-open e w p q n i u ones doubts marks hidden pu po pd pm ph mask s (f t)
 
 -- a row by words goes on with no edge after its place and no mark

@@ -74,13 +74,13 @@ two-along b i j li lb l =
     to (inr (inr (inr x))) = omega (arith, x .0)
 
 pub fixed-row : (e w p q : List ℕ) (n i u ones doubts r : ℕ) → n ≤ 32 → 1 ≤ i → i < n → Places n p q → u ≡ at p i → u ≡ i → ones ≡ row e i → doubts ≡ row w i
-    → r ≡ walkCode (turnFixed ones doubts p q) (alongRow i (i + 1) (n + 1 - (i + 1))) → r ≡ walkCode (turnAt e w p q) (alongRow i (i + 1) (n + 1 - (i + 1)))
+    → r ≡ walkCode (turnFixed ones doubts p q) (alongRow i (i + 1) (n + 1 - (i + 1))) → r ≡ walkCode (turnAt rowBefore e w p q) (alongRow i (i + 1) (n + 1 - (i + 1)))
 unfolding turnFixed turnAt turnOf
 fixed-row e w p q n i u ones doubts r small li hi h pu fixed po pd z =
     let here : at p i ≡ i = sym pu ∙ fixed in
     let place : at q i ≡ i = ap (at q) (sym here) ∙ h .undone i li (omega arith) in
     z
-    ∙ walk-alike (turnFixed ones doubts p q) (turnAt e w p q) (alongRow i (i + 1) (n + 1 - (i + 1)))
+    ∙ walk-alike (turnFixed ones doubts p q) (turnAt rowBefore e w p q) (alongRow i (i + 1) (n + 1 - (i + 1)))
     (λ k m.
     let g = along-given i (i + 1) (n + 1 - (i + 1)) k m in
     let j : ℕ = k .column in

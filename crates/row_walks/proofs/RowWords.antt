@@ -265,11 +265,11 @@ module _ (n i : ℕ) (p q : List ℕ) (small : n ≤ 32) (li : 1 ≤ i) (hi : i 
 -- the words of a row whose vertex i stands at another place
 pub words-row : (e w p q : List ℕ) (n i u s ones doubts marks hidden mask x y here there r : ℕ) → n ≤ 32 → 1 ≤ i → i < n → Places n p q → Later n i p mask → u ≡ at p i → (u ≡ i → ⊥) → s ≡ at q i
     → ones ≡ row e i → doubts ≡ row w i → marks ≡ row e u → hidden ≡ row w u → x ≡ sourcesBy i u s mask → here ≡ countedBy ones doubts x → y ≡ unmetBy i u s → there ≡ countedBy marks hidden y
-    → r ≡ walkCode (turnWith here there p) (alongRow i (i + 1) (n + 1 - (i + 1))) → r ≡ walkCode (turnAt e w p q) (alongRow i (i + 1) (n + 1 - (i + 1)))
+    → r ≡ walkCode (turnWith here there p) (alongRow i (i + 1) (n + 1 - (i + 1))) → r ≡ walkCode (turnAt rowBefore e w p q) (alongRow i (i + 1) (n + 1 - (i + 1)))
 unfolding turnWith turnAt turnOf
 words-row e w p q n i u s ones doubts marks hidden mask x y here there r small li hi h later pu moved ps po pd pm ph px ph′ py pt z =
     z
-    ∙ walk-alike (turnWith here there p) (turnAt e w p q) (alongRow i (i + 1) (n + 1 - (i + 1)))
+    ∙ walk-alike (turnWith here there p) (turnAt rowBefore e w p q) (alongRow i (i + 1) (n + 1 - (i + 1)))
     (λ k m.
     let g = along-given i (i + 1) (n + 1 - (i + 1)) k m in
     let lj : i < k .column = omega arith in

@@ -19,12 +19,12 @@ use Rattle.turns.proofs.CodeTurns.{count-known, walk-alike}
 use Rattle.row_walks.proofs.AlikeRows.{bare-goes-on}
 
 pub sure-row : (e w p q : List ℕ) (n i u ones doubts marks hidden r : ℕ) → u ≡ at p i → ones ≡ row e i → doubts ≡ row w i → marks ≡ row e u → hidden ≡ row w u → bitOr doubts hidden ≡ 0
-    → r ≡ walkCode (turnWith ones marks p) (alongRow i (i + 1) (n + 1 - (i + 1))) → r ≡ walkCode (turnAt e w p q) (alongRow i (i + 1) (n + 1 - (i + 1)))
+    → r ≡ walkCode (turnWith ones marks p) (alongRow i (i + 1) (n + 1 - (i + 1))) → r ≡ walkCode (turnAt rowBefore e w p q) (alongRow i (i + 1) (n + 1 - (i + 1)))
 unfolding turnWith turnAt turnOf
 sure-row e w p q n i u ones doubts marks hidden r pu po pd pm ph none z =
     let gone = or-none doubts hidden none in
     z
-    ∙ walk-alike (turnWith ones marks p) (turnAt e w p q) (alongRow i (i + 1) (n + 1 - (i + 1)))
+    ∙ walk-alike (turnWith ones marks p) (turnAt rowBefore e w p q) (alongRow i (i + 1) (n + 1 - (i + 1)))
     (λ k m.
     let g = along-given i (i + 1) (n + 1 - (i + 1)) k m in
     let a : bit (row w i) (k .column - 1) ≡ 0 = rw (sym pd, gone .0) (bit-of-zero (k .column - 1)) in
@@ -37,10 +37,10 @@ sure-row e w p q n i u ones doubts marks hidden r pu po pd pm ph none z =
 
 -- row 2 without unknowns, with no edge after its place and no mark
 pub second-bare : (e w p q : List ℕ) (n u ones doubts marks hidden : ℕ) → u ≡ at p 2 → ones ≡ row e 2 → doubts ≡ row w 2 → marks ≡ row e u → hidden ≡ row w u → bitOr doubts hidden ≡ 0
-    → bitOr (ones / 2 ^ 2) marks ≡ 0 → 0 ≡ walkCode (turnAt e w p q) (alongRow 2 3 (n + 1 - 3))
+    → bitOr (ones / 2 ^ 2) marks ≡ 0 → 0 ≡ walkCode (turnAt rowBefore e w p q) (alongRow 2 3 (n + 1 - 3))
 second-bare e w p q n u ones doubts marks hidden pu po pd pm ph none bare = sure-row e w p q n 2 u ones doubts marks hidden 0 pu po pd pm ph none (bare-goes-on p n 2 ones marks bare)
 
 -- and the walk along its words
 pub second-sure : (e w p q : List ℕ) (n u ones doubts marks hidden r : ℕ) → u ≡ at p 2 → ones ≡ row e 2 → doubts ≡ row w 2 → marks ≡ row e u → hidden ≡ row w u → bitOr doubts hidden ≡ 0
-    → r ≡ walkCode (turnWith ones marks p) (alongRow 2 3 (n + 1 - 3)) → r ≡ walkCode (turnAt e w p q) (alongRow 2 3 (n + 1 - 3))
+    → r ≡ walkCode (turnWith ones marks p) (alongRow 2 3 (n + 1 - 3)) → r ≡ walkCode (turnAt rowBefore e w p q) (alongRow 2 3 (n + 1 - 3))
 second-sure e w p q n u ones doubts marks hidden r pu po pd pm ph none z = sure-row e w p q n 2 u ones doubts marks hidden r pu po pd pm ph none z

@@ -4,6 +4,7 @@ ghost use Prim.Native.Nat.{_+_, _-_, _^_, _≤_, _<_};
 ghost use lib.Bits.{bitAnd};
 ghost use Rattle.arrangements.specs.Arrangement.{at};
 ghost use Rattle.pairs.specs.Pairs.{alongRow, fromRow};
+ghost use Rattle.plain.specs.Before.{rowBefore};
 ghost use Rattle.turns.specs.Turns.{turnAt, walkCode, Arranged, Places};
 ghost use Rattle.row_walks.specs.RowWords.{Later};
 use crate::row::is_passed;
@@ -40,7 +41,7 @@ fn second_row<'a>(
     n: u32,
 ) -> u32
     requires { ⌜ (3 ≤ n) × (n ≤ 32) × Places n (now path) (now places) ⌝ }
-    ensures { λ r. ⌜ r ≡ walkCode (turnAt (now (edges .entry)) (now (unknowns .entry)) (now (path .entry)) (now (places .entry))) (alongRow 2 3 (n + 1 - 3)) ⌝ }
+    ensures { λ r. ⌜ r ≡ walkCode (turnAt rowBefore (now (edges .entry)) (now (unknowns .entry)) (now (path .entry)) (now (places .entry))) (alongRow 2 3 (n + 1 - 3)) ⌝ }
 {
     let u = vertex_at(path, 2);
     if (row_of(unknowns, 2) | row_of(unknowns, u)) != 0 {
@@ -63,7 +64,7 @@ fn later_rows<'a>(
     n: u32,
 ) -> u32
     requires { ⌜ (3 ≤ n) × (n ≤ 32) × Places n (now path) (now places) ⌝ }
-    ensures { λ r. ⌜ r ≡ walkCode (turnAt (now (edges .entry)) (now (unknowns .entry)) (now (path .entry)) (now (places .entry))) (fromRow 3 (n - 3)) ⌝ }
+    ensures { λ r. ⌜ r ≡ walkCode (turnAt rowBefore (now (edges .entry)) (now (unknowns .entry)) (now (path .entry)) (now (places .entry))) (fromRow 3 (n - 3)) ⌝ }
 {
     let mut later = after_second(path, n);
     let mut i = 3;
@@ -92,7 +93,7 @@ pub fn rows_walk<'a>(
     n: u32,
 ) -> u32
     requires { ⌜ (n ≤ 32) × Places n (now path) (now places) ⌝ }
-    ensures { λ r. ⌜ r ≡ walkCode (turnAt (now (edges .entry)) (now (unknowns .entry)) (now (path .entry)) (now (places .entry))) (fromRow 2 (n - 2)) ⌝ }
+    ensures { λ r. ⌜ r ≡ walkCode (turnAt rowBefore (now (edges .entry)) (now (unknowns .entry)) (now (path .entry)) (now (places .entry))) (fromRow 2 (n - 2)) ⌝ }
 {
     if n < 3 {
         return 0;

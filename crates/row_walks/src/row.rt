@@ -6,6 +6,7 @@ ghost use Prim.Native.Nat.{ℕ, _+_, _-_, _≤_, _<_};
 ghost use Rattle.laws.specs.Test.{pick};
 ghost use Rattle.arrangements.specs.Arrangement.{at};
 ghost use Rattle.pairs.specs.Pairs.{alongRow};
+ghost use Rattle.plain.specs.Before.{rowBefore};
 ghost use Rattle.turns.specs.Turns.{turnAt, walkCode, Within, Places};
 ghost use Rattle.row_walks.specs.RowWords.{turnWith, turnFixed, countedBy, sourcesBy, unmetBy, Later, Alike};
 use arrangements::places::vertex_at;
@@ -147,7 +148,7 @@ pub fn row_walk<'a>(
     later: u32,
 ) -> u32
     requires { ⌜ (n ≤ 32) × (1 ≤ i) × (i < n) × Places n (now path) (now places) × Later n i (now path) later ⌝ }
-    ensures { λ r. ⌜ r ≡ walkCode (turnAt (now (edges .entry)) (now (unknowns .entry)) (now (path .entry)) (now (places .entry))) (alongRow i (i + 1) (n + 1 - (i + 1))) ⌝ }
+    ensures { λ r. ⌜ r ≡ walkCode (turnAt rowBefore (now (edges .entry)) (now (unknowns .entry)) (now (path .entry)) (now (places .entry))) (alongRow i (i + 1) (n + 1 - (i + 1))) ⌝ }
 {
     let u = vertex_at(path, i);
     let ones = row_of(edges, i);
@@ -171,7 +172,7 @@ pub fn is_passed<'a>(
     later: u32,
 ) -> bool
     requires { ⌜ (n ≤ 32) × (1 ≤ i) × (i < n) × Within n (now path) × Later n i (now path) later ⌝ }
-    ensures { λ r. ⌜ (r ≡ true → (places : List ℕ) → 0 ≡ walkCode (turnAt (now (edges .entry)) (now (unknowns .entry)) (now (path .entry)) places) (alongRow i (i + 1) (n + 1 - (i + 1)))) ⌝ }
+    ensures { λ r. ⌜ (r ≡ true → (places : List ℕ) → 0 ≡ walkCode (turnAt rowBefore (now (edges .entry)) (now (unknowns .entry)) (now (path .entry)) places) (alongRow i (i + 1) (n + 1 - (i + 1)))) ⌝ }
 {
     let u = vertex_at(path, i);
     let ones = row_of(edges, i);

@@ -8,3 +8,4 @@ pub mod Exact
 pub mod Smallest
 pub mod Least
 pub mod Free
+pub mod FirstVertices

@@ -8,10 +8,11 @@ use lib.Dec.{eqb, ltb}
 use borrow.Author.Tests.{eq-eqb, ne-eqb, lt-ltb, le-ltb}
 use Rattle.laws.specs.Test.{pick}
 use Rattle.laws.specs.Compared.{by-same, by-below}
+use Rattle.beginnings.specs.Search.{Judgement}
 use Rattle.beginnings.specs.Search
 use Rattle.graph.specs.declared.Graph.{Graph}
 use Rattle.arrangements.specs.Arrangement.{at}
-use Rattle.judging.specs.Judging.{judged}
+use Rattle.turns.proofs.LastJudged.{judgedByRows}
 use Rattle.stops.specs.Stops.{oneAt}
 use Rattle.stops.specs.Tried.{triedBy}
 use Rattle.stops.proofs.StopLaws.{ByStop}
@@ -39,14 +40,14 @@ module _ (stop one rows k n : ℕ) (d : stop ≡ 1 → ⊥) where
 
 -- ---- and back
 
--- how a beginning b of length k is judged by the code: it is open, and has places left; it is won; else it is lost or has none left
-pub record Judges (g : Graph) (b : List ℕ) (k code : ℕ) : Type 0 where
-  pub wins : code ≡ 2 → judged g b ≡ Search.won
-  pub goes-on : code ≡ 0 → (judged g b ≡ Search.«open») × (k < g .order)
-  pub stays : code ≢ 2 → code ≢ 0 → (judged g b ≡ Search.lost) ⊎ ((g .order ≤ k) × (judged g b ≢ Search.won))
+-- the judgement of a beginning of length k by its code: it is open, and has places left; it is won; else it is lost or has none left
+pub record Judges (n : ℕ) (judgement : Judgement) (k code : ℕ) : Type 0 where
+  pub wins : code ≡ 2 → judgement ≡ Search.won
+  pub goes-on : code ≡ 0 → (judgement ≡ Search.«open») × (k < n)
+  pub stays : code ≢ 2 → code ≢ 0 → (judgement ≡ Search.lost) ⊎ ((n ≤ k) × (judgement ≢ Search.won))
 
 module _ (g : Graph) (b : List ℕ) (k stop one rows : ℕ) (small : one ≤ 1) (by : ByStop g b k stop one rows) where
-  at-stop : stop ≡ 1 → Judges g b k (one + 1)
+  at-stop : stop ≡ 1 → Judges (g .order) (judgedByRows g b) k (one + 1)
   at-stop s =
       record {
         wins = λ e. by .stop-wins s (omega arith);
@@ -54,7 +55,7 @@ module _ (g : Graph) (b : List ℕ) (k stop one rows : ℕ) (small : one ≤ 1) 
         stays = λ e z. inl (by .stop-loses s (λ q. e (omega arith)));
       }
 
-  past-stop : stop ≢ 1 → Judges g b k (pick (ltb k (g .order)) 0 (pick (eqb rows 2) 2 1))
+  past-stop : stop ≢ 1 → Judges (g .order) (judgedByRows g b) k (pick (ltb k (g .order)) 0 (pick (eqb rows 2) 2 1))
   unfolding pick
   past-stop d =
       by-below k (g .order)
@@ -68,6 +69,6 @@ module _ (g : Graph) (b : List ℕ) (k stop one rows : ℕ) (small : one ≤ 1) 
       rw (ne-eqb rows 2 r) record { wins = λ e. absurd (omega arith); goes-on = λ e. absurd (omega arith); stays = λ e z. inr (l, by .full-fails d l r) })))
 
   -- how it is judged
-  pub tried-judges : Judges g b k (triedBy stop one rows k (g .order))
+  pub tried-judges : Judges (g .order) (judgedByRows g b) k (triedBy stop one rows k (g .order))
   unfolding triedBy pick
   tried-judges = by-same stop 1 (λ (s : stop ≡ 1). rw (eq-eqb stop 1 s) (at-stop s)) (λ (d : stop ≢ 1). rw (ne-eqb stop 1 d) (past-stop d))

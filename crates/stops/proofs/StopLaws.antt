@@ -30,14 +30,13 @@ use Rattle.schemes.specs.Free.{placeOf}
 use Rattle.plain.specs.Plain.{samePair, pairOfTwo}
 use Rattle.plain.specs.Before.{rowBefore}
 use Rattle.plain.proofs.RowOne.{two-before, source-before}
-use Rattle.judging.specs.Judging.{judged}
 use Rattle.turns.specs.Turns.{allMarks, countBy, turnBy, turnOf, turnAt, walkCode, Places}
 use Rattle.stops.specs.Used.{usedMask}
 use Rattle.stops.specs.Stops.{ownMask, passedMask, marksAt, sourceBit, oneAt, stopsBy, stopsAt}
 use Rattle.judging.proofs.Arrangements.{two-are}
 use Rattle.turns.proofs.Ones.{all-bits, ones-bit}
 use Rattle.turns.proofs.TurnCodes.{count-small}
-use Rattle.turns.proofs.LastJudged.{judgementCode, code-won, code-open, code-lost, code-not-won, one-open, hereTurn, short-code, full-code}
+use Rattle.turns.proofs.LastJudged.{judgedByRows, judgementCode, code-won, code-open, code-lost, code-not-won, one-open, hereTurn, short-code, full-code}
 use Rattle.stops.proofs.UsedLaws.{used-bit}
 
 -- ---- a bit of the stops
@@ -241,11 +240,11 @@ one-small ones doubts used u k = count-small _ _ _ (bit-small ones (k - 1))
 
 -- how a beginning b of length k is judged by the bit of its last vertex in the stops, how (1, k) counts, and the walk of the other rows
 pub record ByStop (g : Graph) (b : List ℕ) (k stop one rows : ℕ) : Type 0 where
-  pub stop-wins : stop ≡ 1 → one ≡ 1 → judged g b ≡ Search.won
-  pub stop-loses : stop ≡ 1 → one ≢ 1 → judged g b ≡ Search.lost
-  pub short-open : stop ≢ 1 → k < g .order → judged g b ≡ Search.«open»
-  pub full-wins : stop ≢ 1 → g .order ≤ k → rows ≡ 2 → judged g b ≡ Search.won
-  pub full-fails : stop ≢ 1 → g .order ≤ k → rows ≢ 2 → judged g b ≢ Search.won
+  pub stop-wins : stop ≡ 1 → one ≡ 1 → judgedByRows g b ≡ Search.won
+  pub stop-loses : stop ≡ 1 → one ≢ 1 → judgedByRows g b ≡ Search.lost
+  pub short-open : stop ≢ 1 → k < g .order → judgedByRows g b ≡ Search.«open»
+  pub full-wins : stop ≢ 1 → g .order ≤ k → rows ≡ 2 → judgedByRows g b ≡ Search.won
+  pub full-fails : stop ≢ 1 → g .order ≤ k → rows ≢ 2 → judgedByRows g b ≢ Search.won
 
 -- at place 1 nothing stops
 pub first-stop : (g : Graph) (formed : WellFormed g) (v one rows : ℕ) → (g .order ≤ 1 → rows ≡ 0) → ByStop g (v ∷ []) 1 0 one rows
@@ -259,7 +258,7 @@ first-stop g formed v one rows none =
     }
 
 module _ (g : Graph) (formed : WellFormed g) (b : List ℕ) (v : ℕ) (begun : 1 ≤ length b) (follows : Follows (g .order) (blockOf (g .starts)) [] b) (begins : Beginning (g .order) (blockOf (g .starts)) b) (more : Beginning (g .order) (blockOf (g .starts)) (b ++ v ∷ []))
-    (so-far : judged g b ≡ Search.«open») (low : 1 ≤ v) (high : v ≤ 32) (first : 1 ≤ at b 1) where
+    (so-far : judgedByRows g b ≡ Search.«open») (low : 1 ≤ v) (high : v ≤ 32) (first : 1 ≤ at b 1) where
   abbrev k : ℕ
   k = suc (length b)
 
@@ -299,9 +298,9 @@ module _ (g : Graph) (formed : WellFormed g) (b : List ℕ) (v : ℕ) (begun : 1
 
   module _ (q : List ℕ) (places : suc (length b) ≡ g .order → Places (g .order) (b ++ v ∷ []) q) where
     abbrev rows : ℕ
-    rows = walkCode (turnAt (g .edges) (g .unknowns) (b ++ v ∷ []) q) (fromRow 2 (g .order - 2))
+    rows = walkCode (turnAt rowBefore (g .edges) (g .unknowns) (b ++ v ∷ []) q) (fromRow 2 (g .order - 2))
 
-    by-one : stop ≡ 1 → judgementCode (judged g (b ++ v ∷ [])) ≡ pick (eqb one 1) 2 1
+    by-one : stop ≡ 1 → judgementCode (judgedByRows g (b ++ v ∷ [])) ≡ pick (eqb one 1) 2 1
     by-one s =
         let d : eqb turn 0 ≡ false = ne-eqb turn 0 (stop-decides s) in
         by-same k (g .order)
@@ -313,16 +312,16 @@ module _ (g : Graph) (formed : WellFormed g) (b : List ℕ) (v : ℕ) (begun : 1
     pub by-stop : ByStop g (b ++ v ∷ []) (suc (length b)) stop one rows
     by-stop =
         record {
-          stop-wins = λ s a. code-won (judged g (b ++ v ∷ [])) (by-one s ∙ pick-true _ 2 1 (eq-eqb one 1 a));
+          stop-wins = λ s a. code-won (judgedByRows g (b ++ v ∷ [])) (by-one s ∙ pick-true _ 2 1 (eq-eqb one 1 a));
           stop-loses = λ s a.
-              let c : judgementCode (judged g (b ++ v ∷ [])) ≡ 1 = by-one s ∙ pick-false _ 2 1 (ne-eqb one 1 a) in
-              code-lost (judged g (b ++ v ∷ [])) (λ x. absurd (omega arith)) (λ x. absurd (omega arith));
-          short-open = λ d l. code-open (judged g (b ++ v ∷ [])) (short-code g formed b v begun begins more so-far l ∙ pick-true (eqb turn 0) 0 turn (eq-eqb turn 0 (goes-on d)));
-          full-wins = λ d l r. code-won (judged g (b ++ v ∷ [])) (by-rows d l ∙ r);
-          full-fails = λ d l a. code-not-won (judged g (b ++ v ∷ [])) (λ c. a (sym (by-rows d l) ∙ c));
+              let c : judgementCode (judgedByRows g (b ++ v ∷ [])) ≡ 1 = by-one s ∙ pick-false _ 2 1 (ne-eqb one 1 a) in
+              code-lost (judgedByRows g (b ++ v ∷ [])) (λ x. absurd (omega arith)) (λ x. absurd (omega arith));
+          short-open = λ d l. code-open (judgedByRows g (b ++ v ∷ [])) (short-code g formed b v begun begins more so-far l ∙ pick-true (eqb turn 0) 0 turn (eq-eqb turn 0 (goes-on d)));
+          full-wins = λ d l r. code-won (judgedByRows g (b ++ v ∷ [])) (by-rows d l ∙ r);
+          full-fails = λ d l a. code-not-won (judgedByRows g (b ++ v ∷ [])) (λ c. a (sym (by-rows d l) ∙ c));
         }
       where
-        by-rows : stop ≢ 1 → g .order ≤ suc (length b) → judgementCode (judged g (b ++ v ∷ [])) ≡ rows
+        by-rows : stop ≢ 1 → g .order ≤ suc (length b) → judgementCode (judgedByRows g (b ++ v ∷ [])) ≡ rows
         by-rows d l =
             let c : suc (length b) ≡ g .order = omega (arith, more .fits, length-more b v) in
             full-code g formed b v begun begins more so-far c q (places c) ∙ pick-true (eqb turn 0) rows turn (eq-eqb turn 0 (goes-on d))

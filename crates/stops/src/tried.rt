@@ -4,6 +4,7 @@ ghost use Prim.Native.Nat.{_+_, _-_, _≤_, _<_};
 ghost use Rattle.laws.specs.Bit.{bit};
 ghost use Rattle.arrangements.specs.Arrangement.{at};
 ghost use Rattle.pairs.specs.Pairs.{fromRow};
+ghost use Rattle.plain.specs.Before.{rowBefore};
 ghost use Rattle.turns.specs.Turns.{turnAt, walkCode, Places};
 ghost use Rattle.stops.specs.Stops.{oneAt};
 ghost use Rattle.stops.specs.Tried.{triedBy};
@@ -27,7 +28,7 @@ pub fn tried<'a>(
     k: u32,
 ) -> u32
     requires { ⌜ (n ≤ 32) × (v < 32) × (1 ≤ k) × (k ≤ 32) × (n ≤ k → Places n (now path) (now places)) ⌝ }
-    ensures { λ r. ⌜ r ≡ triedBy (bit stops v) (oneAt ones doubts used (at (now (path .entry)) 1) k) (walkCode (turnAt (now (edges .entry)) (now (unknowns .entry)) (now (path .entry)) (now (places .entry))) (fromRow 2 (n - 2))) k n ⌝ }
+    ensures { λ r. ⌜ r ≡ triedBy (bit stops v) (oneAt ones doubts used (at (now (path .entry)) 1) k) (walkCode (turnAt rowBefore (now (edges .entry)) (now (unknowns .entry)) (now (path .entry)) (now (places .entry))) (fromRow 2 (n - 2))) k n ⌝ }
 {
     if (stops >> v) % 2 == 1 {
         let first = vertex_at(path, 1);

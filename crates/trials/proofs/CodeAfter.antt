@@ -1,5 +1,5 @@
 -- What the code's steps come to, one law for each answer.
-use Prim.Native.Nat.{ℕ, _+_, _-_, _≤_, _<_}
+use Prim.Native.Nat.{ℕ, _-_, _≤_, _<_}
 use native.Mathlib.Omega.{arith}
 use mathlib.Core.Path.{_≡_, refl, sym, ap, ap₂, _∙_}
 use mathlib.Core.Logic.{_≢_}
@@ -10,18 +10,19 @@ use borrow.Author.Tests.{eq-eqb, ne-eqb}
 use Rattle.laws.specs.Compared.{by-below}
 use Rattle.laws.specs.Test.{both, pick}
 use Rattle.laws.specs.TestLaws.{both-hold, first-fails, second-fails, pick-true, pick-false}
+use Rattle.needed.specs.Settled.{upTo}
 use Rattle.rows.specs.Rows.{entryIn}
 use Rattle.arrangements.specs.Arrangement.{at}
 use Rattle.pairs.specs.Pairs.{Pair, pair}
-use Rattle.plain.specs.Before.{rowBefore}
+use Rattle.plain.specs.Before.{beforeIn}
 use Rattle.plain.specs.Plain.{samePair, pairOfTwo}
-use Rattle.plain.proofs.Before.{row-itself}
+use Rattle.plain.proofs.Modes.{mode-itself}
 use Rattle.plain.proofs.Plain.{samePair-tells, two-rising, two-falling}
 use Rattle.turns.specs.Turns.{turnBy, walkCode, Places}
+use Rattle.turns.specs.Next.{pairsAfter, startingAt}
 use Rattle.turns.proofs.CodeTurns.{place-first, place-last}
-use Rattle.kinds.specs.Kinds.{reached}
-use Rattle.trials.specs.After.{countAfter, turnAfter, fromPair}
-use Rattle.trials.proofs.Pairs.{from-here, from-down, from-last}
+use Rattle.turns.proofs.NextLaws.{starting-here, starting-none}
+use Rattle.trials.specs.After.{countAfter, turnAfter}
 
 -- ---- how an entry counts
 
@@ -38,12 +39,11 @@ module _ (value a : ℕ) (first reaches b : Bool) (is-first : b ≡ first) where
     pub counts-unreached : c ≡ false → 1 - value ≡ countAfter value a first reaches
     counts-unreached f = sym (counts-first ∙ pick-false _ value (1 - value) (second-fails (eqb a value) reaches (sym is-reached ∙ f)))
 
-    module _ (x : ℕ) (e : x ≡ a) where
-      pub counts-stays : c ≡ true → x ≡ value → value ≡ countAfter value a first reaches
-      counts-stays t z = sym (counts-first ∙ pick-true _ value (1 - value) (both-hold (eqb a value) reaches (eq-eqb a value (sym e ∙ z)) (sym is-reached ∙ t)))
+    pub counts-stays : c ≡ true → a ≡ value → value ≡ countAfter value a first reaches
+    counts-stays t z = sym (counts-first ∙ pick-true _ value (1 - value) (both-hold (eqb a value) reaches (eq-eqb a value z) (sym is-reached ∙ t)))
 
-      pub counts-other : x ≢ value → 1 - value ≡ countAfter value a first reaches
-      counts-other d = sym (counts-first ∙ pick-false _ value (1 - value) (first-fails (eqb a value) reaches (ne-eqb a value (λ z. d (e ∙ z)))))
+    pub counts-other : a ≢ value → 1 - value ≡ countAfter value a first reaches
+    counts-other d = sym (counts-first ∙ pick-false _ value (1 - value) (first-fails (eqb a value) reaches (ne-eqb a value d)))
 
 -- ---- what a pair does
 
@@ -87,42 +87,39 @@ module _ (n : ℕ) (p q : List ℕ) (h : Places n p q) (i j : ℕ) (low : 1 ≤ 
           let b : at p i ≡ j = sym first ∙ ap (λ (k : Pair). k .column) (sym (two-falling u v l)) ∙ column-is in
           ap₂ pairOfTwo (ap (at q) (sym a) ∙ h .undone j (omega arith) high) (ap (at q) (sym b) ∙ h .undone i low (omega arith)) ∙ two-falling j i (omega arith)
 
-  pub own-passes : (e w : List ℕ) (lastPair lastImage : Pair) (c : Bool) → c ≡ samePair (pairOfTwo u v) (pair i j) → c ≡ true → 0 ≡ turnAfter e w p q lastPair lastImage (pair i j)
+  pub own-passes : (mode : ℕ) (edges unknowns : List ℕ) (w : Pair) (pair-out image-out c : Bool) → c ≡ samePair (pairOfTwo u v) (pair i j) → c ≡ true
+      → 0 ≡ turnAfter (beforeIn mode) edges unknowns p q w pair-out image-out (pair i j)
   unfolding turnAfter countAfter
-  own-passes e w lastPair lastImage c is t =
+  own-passes mode edges unknowns w pair-out image-out c is t =
       let own : pairOfTwo (at q i) (at q j) ≡ pair i j = own-source (samePair-tells .equal (pairOfTwo u v) (pair i j) (sym is ∙ t)) in
-      gap-passes _ _ _ (rw (← first, ← last) (sym is ∙ t)) (pick-false _ _ 0 (ap (λ (k : Pair). rowBefore k (pair i j)) own ∙ row-itself (pair i j)))
+      gap-passes _ _ _ (rw (← first, ← last) (sym is ∙ t)) (pick-false _ _ 0 (ap (λ (k : Pair). beforeIn mode k (pair i j)) own ∙ mode-itself mode (pair i j)))
 
-pub turn-is : (e w p q : List ℕ) (lastPair lastImage : Pair) (i j s t u v a b r : ℕ) → s ≡ at q i → t ≡ at q j → u ≡ at p i → v ≡ at p j
-    → a ≡ countAfter 0 (entryIn e w i j) (rowBefore (pairOfTwo s t) (pair i j)) (reached lastImage (pairOfTwo s t))
-    → b ≡ countAfter 1 (entryIn e w u v) (rowBefore (pairOfTwo u v) (pair i j)) (reached lastPair (pairOfTwo u v))
-    → r ≡ turnBy a b (samePair (pairOfTwo u v) (pair i j)) → r ≡ turnAfter e w p q lastPair lastImage (pair i j)
+pub turn-is : (mode : ℕ) (edges unknowns p q : List ℕ) (w : Pair) (pair-out image-out : Bool) (i j s t u v here there a b r : ℕ) → s ≡ at q i → t ≡ at q j → u ≡ at p i → v ≡ at p j
+    → here ≡ entryIn edges unknowns i j → there ≡ entryIn edges unknowns u v → a ≡ countAfter 0 here (beforeIn mode (pairOfTwo s t) (pair i j)) (upTo (beforeIn mode) image-out w (pairOfTwo s t))
+    → b ≡ countAfter 1 there (beforeIn mode (pairOfTwo u v) (pair i j)) (upTo (beforeIn mode) pair-out w (pairOfTwo u v))
+    → r ≡ turnBy a b (samePair (pairOfTwo u v) (pair i j)) → r ≡ turnAfter (beforeIn mode) edges unknowns p q w pair-out image-out (pair i j)
 unfolding turnAfter
-turn-is e w p q lastPair lastImage i j s t u v a b r ps pt pu pv pa pb h = h ∙ rw (pa, pb, ps, pt, pu, pv)
+turn-is mode edges unknowns p q w pair-out image-out i j s t u v here there a b r ps pt pu pv ph pr pa pb h = h ∙ rw (pa, pb, ph, pr, ps, pt, pu, pv)
 
--- ---- along the pairs from (i, j) on
+-- ---- along the pairs
 
-module _ (t : Pair → ℕ) (n i j whole : ℕ) (left : walkCode t (fromPair n i j) ≡ whole) where
-  -- the first pair of row i + 1 where the row is done
-  pub walk-down : i < n → n < j → j ≤ n + 1 → walkCode t (fromPair n (i + 1) (i + 1 + 1)) ≡ whole
-  walk-down h k l =
-      let q : n + 1 ≡ j = omega arith in
-      ap (walkCode t) (sym (from-down n i h)) ∙ ap (λ (m : ℕ). walkCode t (fromPair n i m)) q ∙ left
+pub walk-begins : (t : Pair → ℕ) (mode n : ℕ) (k : Pair) (i j : ℕ) → pairsAfter mode n k ≡ startingAt (pairsAfter mode n) (pair i j)
+    → walkCode t (startingAt (pairsAfter mode n) (pair i j)) ≡ walkCode t (pairsAfter mode n k)
+walk-begins t mode n k i j e = ap (walkCode t) (sym e)
 
-  module _ (c : ℕ) (h : j ≤ n) (e : c ≡ t (pair i j)) where
+module _ (t : Pair → ℕ) (after : Pair → List Pair) (i j whole : ℕ) (left : walkCode t (startingAt after (pair i j)) ≡ whole) where
+  module _ (some : i ≢ 0) (c : ℕ) (e : c ≡ t (pair i j)) where
     -- the next one where the pair goes on
-    pub walk-along : c ≡ 0 → walkCode t (fromPair n i (j + 1)) ≡ whole
+    pub walk-along : (row column : ℕ) → c ≡ 0 → after (pair i j) ≡ startingAt after (pair row column) → walkCode t (startingAt after (pair row column)) ≡ whole
     unfolding walkCode pick
-    walk-along z = rw (from-here n i j h, eq-eqb (t (pair i j)) 0 (sym e ∙ z)) at left
+    walk-along row column z next = rw (starting-here after i j some, eq-eqb (t (pair i j)) 0 (sym e ∙ z), next) at left
 
     -- the end where it does not
     pub walk-ends : c ≢ 0 → eqb c 2 ≡ eqb whole 2
     unfolding walkCode pick
-    walk-ends d = ap (λ (x : ℕ). eqb x 2) (e ∙ (rw (from-here n i j h, ne-eqb (t (pair i j)) 0 (λ z. d (e ∙ z))) at left))
+    walk-ends d = ap (λ (x : ℕ). eqb x 2) (e ∙ (rw (starting-here after i j some, ne-eqb (t (pair i j)) 0 (λ z. d (e ∙ z))) at left))
 
   -- the end where no pair is left
-  pub walk-open : i ≤ n → n ≤ i → i < j → false ≡ eqb whole 2
+  pub walk-open : i ≡ 0 → false ≡ eqb whole 2
   unfolding walkCode
-  walk-open h k l =
-      let q : i ≡ n = omega arith in
-      ap (λ (x : ℕ). eqb x 2) (rw (ap (λ (m : ℕ). fromPair n m j) q ∙ from-last n j (omega arith)) at left)
+  walk-open none = ap (λ (x : ℕ). eqb x 2) (rw (starting-none after i j none) at left)

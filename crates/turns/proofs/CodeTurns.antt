@@ -19,9 +19,9 @@ use Rattle.words.specs.Placed.{row}
 use Rattle.arrangements.specs.Arrangement.{at}
 use Rattle.pairs.specs.Pairs.{Pair, pair}
 use Rattle.plain.specs.Plain.{samePair, pairOfTwo}
-use Rattle.plain.specs.Before.{rowBefore}
+use Rattle.plain.specs.Before.{earlierOf, rowBefore, columnBefore, beforeIn}
 use Rattle.plain.proofs.Plain.{two-rising, two-falling}
-use Rattle.plain.proofs.Before.{row-told, row-less, row-along}
+use Rattle.plain.proofs.Before.{earlier-told, earlier-first, earlier-second, whole-of}
 use Rattle.turns.specs.Turns.{countBy, turnBy, turnOf, turnAt, walkCode, Places}
 
 -- ---- a pair and its image
@@ -47,23 +47,33 @@ module _ (i j u v : ℕ) where
 
 -- ---- one pair
 
+-- which of two pairs of numbers is before the other
+module _ (a b c d : ℕ) where
+  pub earlier-along : a ≡ c → ltb b d ≡ earlierOf a b c d
+  earlier-along e =
+      same-test (ltb b d) (earlierOf a b c d) (λ t. earlier-second a b c d e (ltb-true b d t))
+      (λ t. ⊎-elim (λ (l : a < c). absurd (omega arith)) (λ (h : (a ≡ c) × (b < d)). lt-ltb b d (h .1)) (earlier-told a b c d t))
+
+  pub earlier-less : (a ≡ c → ⊥) → ltb a c ≡ earlierOf a b c d
+  earlier-less n =
+      same-test (ltb a c) (earlierOf a b c d) (λ t. earlier-first a b c d (ltb-true a c t))
+      (λ t. ⊎-elim (λ (l : a < c). lt-ltb a c l) (λ (h : (a ≡ c) × (b < d)). absurd (n (h .0))) (earlier-told a b c d t))
+
 -- which of two pairs comes first
-module _ (a b c d : ℕ) (la : 1 ≤ a) (lb : 1 ≤ b) where
-  pub before-along : a ≡ c → ltb b d ≡ rowBefore (pair a b) (pair c d)
-  before-along e =
-      same-test (ltb b d) (rowBefore (pair a b) (pair c d)) (λ t. row-along (pair a b) (pair c d) la lb e (ltb-true b d t))
-      (λ t. ⊎-elim (λ (l : a < c). absurd (omega arith)) (λ (h : (a ≡ c) × (b < d)). lt-ltb b d (h .1)) (row-told (pair a b) (pair c d) t))
+module _ (mode a b c d : ℕ) (la : 1 ≤ a) (lb : 1 ≤ b) (r : Bool) where
+  pub before-by-columns : mode ≡ 2 → r ≡ earlierOf b a d c → r ≡ beforeIn mode (pair a b) (pair c d)
+  unfolding beforeIn columnBefore pick both
+  before-by-columns e h = rw (eq-eqb mode 2 e, whole-of (pair a b) la lb) h
 
-  pub before-less : (a ≡ c → ⊥) → ltb a c ≡ rowBefore (pair a b) (pair c d)
-  before-less n =
-      same-test (ltb a c) (rowBefore (pair a b) (pair c d)) (λ t. row-less (pair a b) (pair c d) la lb (ltb-true a c t))
-      (λ t. ⊎-elim (λ (l : a < c). lt-ltb a c l) (λ (h : (a ≡ c) × (b < d)). absurd (n (h .0))) (row-told (pair a b) (pair c d) t))
+  pub before-by-rows : (mode ≡ 2 → ⊥) → r ≡ earlierOf a b c d → r ≡ beforeIn mode (pair a b) (pair c d)
+  unfolding beforeIn rowBefore pick both
+  before-by-rows n h = rw (ne-eqb mode 2 n, whole-of (pair a b) la lb) h
 
-module _ (u v i j : ℕ) where
-  pub two-before-rising : u < v → (r : Bool) → r ≡ rowBefore (pair u v) (pair i j) → r ≡ rowBefore (pairOfTwo u v) (pair i j)
+module _ (mode u v i j : ℕ) where
+  pub two-before-rising : u < v → (r : Bool) → r ≡ beforeIn mode (pair u v) (pair i j) → r ≡ beforeIn mode (pairOfTwo u v) (pair i j)
   two-before-rising l r e = rw (two-rising u v l) e
 
-  pub two-before-falling : v ≤ u → (r : Bool) → r ≡ rowBefore (pair v u) (pair i j) → r ≡ rowBefore (pairOfTwo u v) (pair i j)
+  pub two-before-falling : v ≤ u → (r : Bool) → r ≡ beforeIn mode (pair v u) (pair i j) → r ≡ beforeIn mode (pairOfTwo u v) (pair i j)
   two-before-falling l r e = rw (two-falling u v l) e
 
 -- how an entry counts: where it is known
@@ -73,32 +83,32 @@ count-known e u t h = rw h
 
 -- and where it is unknown, by the test
 module _ (e w k : ℕ) (t : Bool) (h : bit w k ≡ 0 → ⊥) where
-  count-one : t ≡ true → 1 ≡ countBy e (bit w k) t
+  pub count-one : t ≡ true → 1 ≡ countBy e (bit w k) t
   unfolding countBy pick
   count-one b = rw (eq-eqb (bit w k) 1 (omega (arith, bit-small w k)), b)
 
-  count-none : t ≡ false → 0 ≡ countBy e (bit w k) t
+  pub count-none : t ≡ false → 0 ≡ countBy e (bit w k) t
   unfolding countBy pick
   count-none b = rw (eq-eqb (bit w k) 1 (omega (arith, bit-small w k)), b)
 
-module _ (e w k i j : ℕ) (h : bit w k ≡ 0 → ⊥) where
+module _ (mode e w k i j : ℕ) (h : bit w k ≡ 0 → ⊥) where
   -- at its own place
-  module _ (q : List ℕ) (s t : ℕ) (b : Bool) (ps : s ≡ at q i) (pt : t ≡ at q j) (is : b ≡ rowBefore (pairOfTwo s t) (pair i j)) where
-    told : rowBefore (pairOfTwo (at q i) (at q j)) (pair i j) ≡ b
+  module _ (q : List ℕ) (s t : ℕ) (b : Bool) (ps : s ≡ at q i) (pt : t ≡ at q j) (is : b ≡ beforeIn mode (pairOfTwo s t) (pair i j)) where
+    told : beforeIn mode (pairOfTwo (at q i) (at q j)) (pair i j) ≡ b
     told = sym (is ∙ rw (ps, pt))
 
-    pub source-counts : b ≡ true → 1 ≡ countBy e (bit w k) (rowBefore (pairOfTwo (at q i) (at q j)) (pair i j))
+    pub source-counts : b ≡ true → 1 ≡ countBy e (bit w k) (beforeIn mode (pairOfTwo (at q i) (at q j)) (pair i j))
     source-counts y = count-one e w k _ h (told ∙ y)
 
-    pub source-none : b ≡ false → 0 ≡ countBy e (bit w k) (rowBefore (pairOfTwo (at q i) (at q j)) (pair i j))
+    pub source-none : b ≡ false → 0 ≡ countBy e (bit w k) (beforeIn mode (pairOfTwo (at q i) (at q j)) (pair i j))
     source-none y = count-none e w k _ h (told ∙ y)
 
   -- as an image
-  module _ (u v : ℕ) (b : Bool) (is : b ≡ rowBefore (pairOfTwo u v) (pair i j)) where
-    pub image-none : b ≡ true → 0 ≡ countBy e (bit w k) (not (rowBefore (pairOfTwo u v) (pair i j)))
+  module _ (u v : ℕ) (b : Bool) (is : b ≡ beforeIn mode (pairOfTwo u v) (pair i j)) where
+    pub image-none : b ≡ true → 0 ≡ countBy e (bit w k) (not (beforeIn mode (pairOfTwo u v) (pair i j)))
     image-none y = count-none e w k _ h (ap not (sym is ∙ y))
 
-    pub image-counts : b ≡ false → 1 ≡ countBy e (bit w k) (not (rowBefore (pairOfTwo u v) (pair i j)))
+    pub image-counts : b ≡ false → 1 ≡ countBy e (bit w k) (not (beforeIn mode (pairOfTwo u v) (pair i j)))
     image-counts y = count-one e w k _ h (ap not (sym is ∙ y))
 
 -- what a pair does
@@ -147,17 +157,17 @@ module _ (ones marks i j u v : ℕ) where
       bits-lose = turn-loses (bit ones (j - 1)) (bit marks (v - 1)) i j u v apart z own s
 
 -- by the rows
-pub turn-by-rows : (ones doubts marks hidden i j u v s t a b r : ℕ) → a ≡ countBy (bit ones (j - 1)) (bit doubts (j - 1)) (rowBefore (pairOfTwo s t) (pair i j))
-    → b ≡ countBy (bit marks (v - 1)) (bit hidden (v - 1)) (not (rowBefore (pairOfTwo u v) (pair i j)))
-    → r ≡ turnBy a b (samePair (pairOfTwo u v) (pair i j)) → r ≡ turnOf ones doubts marks hidden i j u v s t
+pub turn-by-rows : (before : Pair → Pair → Bool) (ones doubts marks hidden i j u v s t a b r : ℕ) → a ≡ countBy (bit ones (j - 1)) (bit doubts (j - 1)) (before (pairOfTwo s t) (pair i j))
+    → b ≡ countBy (bit marks (v - 1)) (bit hidden (v - 1)) (not (before (pairOfTwo u v) (pair i j)))
+    → r ≡ turnBy a b (samePair (pairOfTwo u v) (pair i j)) → r ≡ turnOf before ones doubts marks hidden i j u v s t
 unfolding turnOf
-turn-by-rows ones doubts marks hidden i j u v s t a b r pa pb h = h ∙ rw (pa, pb)
+turn-by-rows before ones doubts marks hidden i j u v s t a b r pa pb h = h ∙ rw (pa, pb)
 
 -- and under the path
-pub turn-is : (e w p q : List ℕ) (i j u v ones doubts marks hidden r : ℕ) → u ≡ at p i → v ≡ at p j → ones ≡ row e i → doubts ≡ row w i → marks ≡ row e u → hidden ≡ row w u
-    → r ≡ turnOf ones doubts marks hidden i j u v (at q i) (at q j) → r ≡ turnAt e w p q (pair i j)
+pub turn-is : (before : Pair → Pair → Bool) (e w p q : List ℕ) (i j u v ones doubts marks hidden r : ℕ) → u ≡ at p i → v ≡ at p j → ones ≡ row e i → doubts ≡ row w i → marks ≡ row e u → hidden ≡ row w u
+    → r ≡ turnOf before ones doubts marks hidden i j u v (at q i) (at q j) → r ≡ turnAt before e w p q (pair i j)
 unfolding turnAt
-turn-is e w p q i j u v ones doubts marks hidden r pu pv po pd pm ph h = h ∙ rw (po, pd, pm, ph, pu, pv)
+turn-is before e w p q i j u v ones doubts marks hidden r pu pv po pd pm ph h = h ∙ rw (po, pd, pm, ph, pu, pv)
 
 -- ---- the vertices of a path and their places
 

@@ -1,4 +1,5 @@
 pub mod Ones
+pub mod NextLaws
 pub mod CodeTurns
 pub mod TurnCodes
 pub mod Walks

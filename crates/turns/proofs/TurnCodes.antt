@@ -13,12 +13,10 @@ use Rattle.graph.specs.declared.Graph.{Graph}
 use Rattle.words.specs.Placed.{row}
 use Rattle.graph.specs.Graph.{entry}
 use Rattle.graph.specs.WellFormed.{WellFormed}
-use Rattle.pairs.specs.Pairs.{pair}
+use Rattle.pairs.specs.Pairs.{Pair, pair}
 use Rattle.graph.specs.Counts.{entryAt}
 use Rattle.plain.specs.Plain.{samePair, pairOfTwo}
-use Rattle.plain.specs.Before.{rowBefore}
 use Rattle.plain.proofs.Plain.{samePair-tells}
-use Rattle.plain.proofs.Before.{row-itself}
 use Rattle.turns.specs.Turns.{countBy, turnBy, turnOf}
 use Rattle.judging.proofs.Arrangements.{entry-of-two}
 
@@ -95,12 +93,13 @@ move-code true (suc zero) (suc (suc b)) ha hb h = absurd (omega arith)
 move-code false zero (suc (suc b)) ha hb h = absurd (omega arith)
 move-code false (suc zero) (suc (suc b)) ha hb h = absurd (omega arith)
 
-module _ (g : Graph) (w : WellFormed g) (i j u v s t : ℕ) where
+-- by which of two pairs is compared first; none is before itself
+module _ (before : Pair → Pair → Bool) (itself : (k : Pair) → before k k ≡ false) (g : Graph) (w : WellFormed g) (i j u v s t : ℕ) where
   abbrev edge : Bool
-  edge = either (eqb (entry g i j) 1) (both (ltb 1 (entry g i j)) (rowBefore (pairOfTwo s t) (pair i j)))
+  edge = either (eqb (entry g i j) 1) (both (ltb 1 (entry g i j)) (before (pairOfTwo s t) (pair i j)))
 
   abbrev gap : Bool
-  gap = either (eqb (entryAt g (pairOfTwo u v)) 0) (both (ltb 1 (entryAt g (pairOfTwo u v))) (rowBefore (pairOfTwo u v) (pair i j)))
+  gap = either (eqb (entryAt g (pairOfTwo u v)) 0) (both (ltb 1 (entryAt g (pairOfTwo u v))) (before (pairOfTwo u v) (pair i j)))
 
   abbrev own : Bool
   own = samePair (pairOfTwo u v) (pair i j)
@@ -119,20 +118,20 @@ module _ (g : Graph) (w : WellFormed g) (i j u v s t : ℕ) where
   u₂ = bit (row (g .unknowns) u) (v - 1)
 
   -- what is its own image counts at most as its image does
-  own-most : own ≡ true → countBy e₁ u₁ (rowBefore (pairOfTwo s t) (pair i j)) ≤ countBy e₂ u₂ (not (rowBefore (pairOfTwo u v) (pair i j)))
+  own-most : own ≡ true → countBy e₁ u₁ (before (pairOfTwo s t) (pair i j)) ≤ countBy e₂ u₂ (not (before (pairOfTwo u v) (pair i j)))
   own-most o =
       let one : pairOfTwo u v ≡ pair i j = samePair-tells .equal (pairOfTwo u v) (pair i j) o in
       let same : entry g u v ≡ entry g i j = sym (entry-of-two g w u v) ∙ ap (entryAt g) one in
       let first : e₂ ≡ e₁ = omega (arith, same, bit-small (row (g .edges) i) (j - 1), bit-small (row (g .edges) u) (v - 1), bit-small (row (g .unknowns) i) (j - 1), bit-small (row (g .unknowns) u) (v - 1)) in
       let second : u₂ ≡ u₁ = omega (arith, same, bit-small (row (g .edges) i) (j - 1), bit-small (row (g .edges) u) (v - 1), bit-small (row (g .unknowns) i) (j - 1), bit-small (row (g .unknowns) u) (v - 1)) in
-      rw (one, row-itself (pair i j), first, second) (count-most e₁ u₁ (rowBefore (pairOfTwo s t) (pair i j)))
+      rw (one, itself (pair i j), first, second) (count-most e₁ u₁ (before (pairOfTwo s t) (pair i j)))
 
   -- the move of (i, j), where u and v stand there and it is the image of the pair of s and t
-  pub turn-code : codeOf (freeMove own edge gap) ≡ turnOf (row (g .edges) i) (row (g .unknowns) i) (row (g .edges) u) (row (g .unknowns) u) i j u v s t
+  pub turn-code : codeOf (freeMove own edge gap) ≡ turnOf before (row (g .edges) i) (row (g .unknowns) i) (row (g .edges) u) (row (g .unknowns) u) i j u v s t
   unfolding turnOf
   turn-code =
-      let a = count-edge e₁ u₁ (rowBefore (pairOfTwo s t) (pair i j)) (bit-small _ _) (bit-small _ _) (w .not-both i j) in
-      let b = count-gap e₂ u₂ (rowBefore (pairOfTwo u v) (pair i j)) (bit-small _ _) (bit-small _ _) (w .not-both u v) in
+      let a = count-edge e₁ u₁ (before (pairOfTwo s t) (pair i j)) (bit-small _ _) (bit-small _ _) (w .not-both i j) in
+      let b = count-gap e₂ u₂ (before (pairOfTwo u v) (pair i j)) (bit-small _ _) (bit-small _ _) (w .not-both u v) in
       rw (entry-of-two g w u v, a, b)
-      (move-code own (countBy e₁ u₁ (rowBefore (pairOfTwo s t) (pair i j))) (countBy e₂ u₂ (not (rowBefore (pairOfTwo u v) (pair i j))))
+      (move-code own (countBy e₁ u₁ (before (pairOfTwo s t) (pair i j))) (countBy e₂ u₂ (not (before (pairOfTwo u v) (pair i j))))
       (count-small e₁ u₁ _ (bit-small _ _)) (count-small e₂ u₂ _ (bit-small _ _)) own-most)

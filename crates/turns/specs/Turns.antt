@@ -11,7 +11,6 @@ use Rattle.words.specs.Placed.{row}
 use Rattle.arrangements.specs.Arrangement.{at}
 use Rattle.pairs.specs.Pairs.{Pair, pair}
 use Rattle.plain.specs.Plain.{samePair, pairOfTwo}
-use Rattle.plain.specs.Before.{rowBefore}
 
 -- all 32 marks
 abbrev pub allMarks : ℕ
@@ -25,20 +24,22 @@ countBy edge unknown test = pick (eqb unknown 1) (pick test 1 0) edge
 unfoldable pub turnBy : ℕ → ℕ → Bool → ℕ
 turnBy a b own = pick (eqb a b) 0 (pick (eqb a 1) 2 (pick own 0 1))
 
--- what the pair (i, j) does where u and v stand there, and it is the image of the pair of s and t, by the edges and unknowns of row i
--- and of row u: an unknown entry counts as an edge where that pair comes before (i, j), and at the image where this does not come
--- before (i, j)
-unfoldable pub turnOf : (ones doubts marks hidden i j u v s t : ℕ) → ℕ
-turnOf ones doubts marks hidden i j u v s t =
-    turnBy (countBy (bit ones (j - 1)) (bit doubts (j - 1)) (rowBefore (pairOfTwo s t) (pair i j)))
-    (countBy (bit marks (v - 1)) (bit hidden (v - 1)) (not (rowBefore (pairOfTwo u v) (pair i j))))
-    (samePair (pairOfTwo u v) (pair i j))
+-- which of two pairs is compared first
+module _ (before : Pair → Pair → Bool) where
+  -- what the pair (i, j) does where u and v stand there, and it is the image of the pair of s and t, by the edges and unknowns of row i
+  -- and of row u: an unknown entry counts as an edge where that pair comes before (i, j), and at the image where this does not come
+  -- before (i, j)
+  unfoldable pub turnOf : (ones doubts marks hidden i j u v s t : ℕ) → ℕ
+  turnOf ones doubts marks hidden i j u v s t =
+      turnBy (countBy (bit ones (j - 1)) (bit doubts (j - 1)) (before (pairOfTwo s t) (pair i j)))
+      (countBy (bit marks (v - 1)) (bit hidden (v - 1)) (not (before (pairOfTwo u v) (pair i j))))
+      (samePair (pairOfTwo u v) (pair i j))
 
--- what pair k does under the path p, where q has the place of each vertex
-unfoldable pub turnAt : List ℕ → List ℕ → List ℕ → List ℕ → Pair → ℕ
-turnAt edges unknowns p q k =
-    turnOf (row edges (k .row)) (row unknowns (k .row)) (row edges (at p (k .row))) (row unknowns (at p (k .row)))
-    (k .row) (k .column) (at p (k .row)) (at p (k .column)) (at q (k .row)) (at q (k .column))
+  -- what pair k does under the path p, where q has the place of each vertex
+  unfoldable pub turnAt : List ℕ → List ℕ → List ℕ → List ℕ → Pair → ℕ
+  turnAt edges unknowns p q k =
+      turnOf (row edges (k .row)) (row unknowns (k .row)) (row edges (at p (k .row))) (row unknowns (at p (k .row)))
+      (k .row) (k .column) (at p (k .row)) (at p (k .column)) (at q (k .row)) (at q (k .column))
 
 -- ---- along pairs
 

@@ -1,8 +1,8 @@
 // Runs the worked graphs of the rules, and each refusal of a library, and writes what came of it. The cases are a table
 // on standard input, a row for each: the letter of its kind; from column 2 on, in hexadecimal, how many bytes its
-// record has, from column 5 on the first four of them, with zeros after, and from column 14 on a budget; from column 23
-// on other numbers, each a digit, with an arrangement from column 24 on; from column 28 on its name. A digit is 0 to 9,
-// then a for 10 and so on.
+// record has, from column 5 on the first six of them, with zeros after, and from column 18 on a budget; from column 27
+// on other numbers, each a digit: the mode of a judgement, or what else its kind has, with an arrangement from column 28
+// on; from column 32 on its name. A digit is 0 to 9, then a for 10 and so on.
 use graph::Graph;
 use judging::Judged;
 use libc::STDIN_FILENO;
@@ -25,11 +25,13 @@ fn bytes(row: &[u8]) -> [u8; 130] {
     whole[1] = byte_at(row, 7);
     whole[2] = byte_at(row, 9);
     whole[3] = byte_at(row, 11);
+    whole[4] = byte_at(row, 13);
+    whole[5] = byte_at(row, 15);
     whole
 }
 
 fn budget(row: &[u8]) -> u32 {
-    (hex_at(row, 14, 8) % 4294967296) as u32
+    (hex_at(row, 18, 8) % 4294967296) as u32
 }
 
 fn vertex(row: &[u8], column: usize) -> u8 {
@@ -39,9 +41,9 @@ fn vertex(row: &[u8], column: usize) -> u8 {
 // The vertices at places 1 to 3.
 fn arrangement(row: &[u8]) -> [u8; 32] {
     let mut p = [0u8; 32];
-    p[0] = vertex(row, 24);
-    p[1] = vertex(row, 25);
-    p[2] = vertex(row, 26);
+    p[0] = vertex(row, 28);
+    p[1] = vertex(row, 29);
+    p[2] = vertex(row, 30);
     p
 }
 
@@ -55,23 +57,23 @@ fn show(order: u32, judged: Judged, literals: &[i32]) {
     io::write_all(STDOUT_FILENO, &out[..used]);
 }
 
-fn judge(graph: Graph, budget: u32) {
+fn judge(graph: Graph, mode: u32, budget: u32) {
     let mut literals = [0i32; 496];
-    let judged = search::judge(graph, budget, &mut literals);
+    let judged = search::judge(graph, mode, budget, &mut literals);
     show(graph.order, judged, &literals);
 }
 
 // Judging with room for 495 literals.
-fn judge_cramped(graph: Graph, budget: u32) {
+fn judge_cramped(graph: Graph, mode: u32, budget: u32) {
     let mut few = [0i32; 495];
-    let judged = search::judge(graph, budget, &mut few);
+    let judged = search::judge(graph, mode, budget, &mut few);
     show(graph.order, judged, &few);
 }
 
 // Judging without a block start.
-fn malformed(mut graph: Graph) {
+fn malformed(mut graph: Graph, mode: u32) {
     graph.starts = 0;
-    judge(graph, 1000000);
+    judge(graph, mode, 1000000);
 }
 
 // The record of one or two bytes that writing gives.
@@ -147,18 +149,18 @@ fn invert(order: u32, p: [u8; 32]) {
 // The cases that have a graph.
 fn case_of(row: &[u8], kind: u8, graph: Graph) {
     match kind {
-        b'j' => judge(graph, budget(row)),
-        b'k' => judge_cramped(graph, budget(row)),
-        b'm' => malformed(graph),
+        b'j' => judge(graph, digit_at(row, 27), budget(row)),
+        b'k' => judge_cramped(graph, digit_at(row, 27), budget(row)),
+        b'm' => malformed(graph, digit_at(row, 27)),
         b'w' => write(graph),
         b'o' => write_cramped(graph),
-        b'e' => entry(graph, digit_at(row, 23), digit_at(row, 24)),
-        b'd' => degree(graph, digit_at(row, 23)),
+        b'e' => entry(graph, digit_at(row, 27), digit_at(row, 28)),
+        b'd' => degree(graph, digit_at(row, 27)),
         b's' => set(
             graph,
-            digit_at(row, 23),
-            digit_at(row, 24),
-            digit_at(row, 25),
+            digit_at(row, 27),
+            digit_at(row, 28),
+            digit_at(row, 29),
         ),
         _ => relabel(graph, arrangement(row)),
     }
@@ -168,16 +170,16 @@ fn case(row: &[u8]) {
     if row.len() == 0 {
         return;
     }
-    from_column(row, 28);
+    from_column(row, 32);
     text(b":");
     let whole = bytes(row);
     let given = first_bytes(&whole, hex_at(row, 2, 2) as usize);
     let kind = row[0];
     match kind {
         b'r' => read(given),
-        b'f' => field(given, digit_at(row, 23), digit_at(row, 24)),
-        b'c' => compose(digit_at(row, 23), arrangement(row)),
-        b'i' => invert(digit_at(row, 23), arrangement(row)),
+        b'f' => field(given, digit_at(row, 27), digit_at(row, 28)),
+        b'c' => compose(digit_at(row, 27), arrangement(row)),
+        b'i' => invert(digit_at(row, 27), arrangement(row)),
         _ => case_of(row, kind, reading::read(given).graph),
     }
 }

@@ -13,7 +13,7 @@ certify-requires c κs =
     let end = c .before .before .before .explore in
     let start = c .before .before .before .before .before .before .before .args in
     let graph = graphOf (start .n) (start .edges .now) (start .unknowns .now) (start .starts) in
-    (search needs, search needs, search needs, search needs, found-begins graph _ (end .result) _ (end .ensures .0) (c .before .before .if1 .taken), found-won graph _ (end .result) _ (end .ensures .0) (c .before .before .if1 .taken), search still-zeros)
+    (search needs, search needs, search needs, search needs, found-begins _ graph _ (end .result) _ (end .ensures .0) (c .before .before .if1 .taken), found-won _ graph _ (end .result) _ (end .ensures .0) (c .before .before .if1 .taken), search still-zeros)
 
 returns : tie.Need-returns
 returns c = (search answers-first, search smaller-buffer)
@@ -21,12 +21,12 @@ returns c = (search answers-first, search smaller-buffer)
 returns-2 : tie.Need-returns-2
 returns-2 c =
     let end = c .before .before .before .explore in
-    (answers-none _ _ (end .result) _ (end .ensures .0) _ (c .before .if2 .taken) (c .bare .ensures), search none-buffer)
+    (answers-none _ _ _ (end .result) _ (end .ensures .0) _ (c .before .if2 .taken) (c .bare .ensures), search none-buffer)
 
 returns-3 : tie.Need-returns-3
 returns-3 c =
     let end = c .before .before .before .explore in
-    (answers-cut _ _ (end .result) _ (end .ensures .0) _ (c .before .if2 .left) (c .before .before .if1 .left) (c .bare2 .ensures), search cut-buffer)
+    (answers-cut _ _ _ (end .result) _ (end .ensures .0) _ (c .before .if2 .left) (c .before .before .if1 .left) (c .bare2 .ensures), search cut-buffer)
 
 pub judge-with-room-spec : {M : Type 1} → statement M
 judge-with-room-spec =

@@ -1,6 +1,6 @@
 use borrow.Author.Needs.{needs}
 use Rattle.exploring.proofs.CodeSearch.{order-bounded}
-use Rattle.search.proofs.CodeJudge.{order-least, certificate-reorders, certificate-places, wins-at, smaller-is}
+use Rattle.search.proofs.CodeJudge.{certificate-reorders, certificate-places, wins-at, smaller-is}
 use Rattle.search.proofs.tell_smaller.Statement.{statement}
 use Rattle.search.proofs.tell_smaller.Tie as tie
 
@@ -8,7 +8,7 @@ inverse-of-requires : tie.Need-inverse-of-requires
 inverse-of-requires c κs = (search order-bounded, search certificate-reorders)
 
 winning-requires : tie.Need-winning-requires
-winning-requires c κs = (search order-least, search order-bounded, search certificate-places)
+winning-requires c κs = (search order-bounded, search certificate-places)
 
 write-clause-requires : tie.Need-write-clause-requires
 write-clause-requires c κs = (search needs, search needs, search needs, search wins-at, search needs)

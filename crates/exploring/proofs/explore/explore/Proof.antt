@@ -1,17 +1,19 @@
 use borrow.Author.Needs.{needs}
-use Rattle.exploring.proofs.CodeSearch.{path-kept, ends-none, last-low, last-high, last-used, climbs, ends-cut, low-place, mask-holds, used-fits, longer-places, longer-kept, first-low, first-high, ends-won, tries-on, room-deeper, next-fits, goes-deeper}
 use Prim.Native.Nat.{_+_, _-_, _*_}
+use mathlib.Core.Path.{refl}
 use Rattle.graph.proofs.Formed.{formed}
 use Rattle.graph.specs.Graph.{graphOf}
 use Rattle.exploring.proofs.Searching.{Searching, begins}
+use Rattle.exploring.proofs.Trying.{next-kept}
+use Rattle.exploring.proofs.CodeSearch.{path-kept, ends-none, last-low, last-high, last-used, climbs, ends-cut, low-place, mask-holds, used-fits, tries, longer-within, longer-places, first-low, first-high, judges, ends-won, tries-on, goes-deeper, room-deeper, next-fits}
 use Rattle.exploring.proofs.explore.explore.Statement.{statement}
 use Rattle.exploring.proofs.explore.explore.Tie as tie
 
 abbrev Inv-loop : tie.InvT-loop
-Inv-loop n edges unknowns starts blocks budget path₀ ones doubts untried₀ stops₀ places₀ left₀ used₀ depth₀ steps₀ path untried stops places left used depth steps = Searching (graphOf n edges unknowns starts) budget blocks path₀ path untried stops places left used depth steps
+Inv-loop mode n edges unknowns starts blocks budget path₀ ones doubts untried₀ stops₀ places₀ left₀ used₀ depth₀ steps₀ path untried stops places left used depth steps = Searching mode (graphOf n edges unknowns starts) budget blocks path₀ path untried stops places left used depth steps
 
 abbrev μ-loop : tie.MeasureT-loop
-μ-loop n edges unknowns starts blocks budget path₀ ones doubts untried₀ stops₀ places₀ left₀ used₀ depth₀ steps₀ path untried stops places left used depth steps = (budget - steps) * 2 + depth
+μ-loop mode n edges unknowns starts blocks budget path₀ ones doubts untried₀ stops₀ places₀ left₀ used₀ depth₀ steps₀ path untried stops places left used depth steps = (budget - steps) * 2 + depth
 
 loop-holds : tie.Need-loop-holds Inv-loop μ-loop
 loop-holds c = search (begins, formed)
@@ -34,6 +36,9 @@ returns-2 c = (search ends-cut, search path-kept, search needs)
 power-requires : tie.Need-power-requires Inv-loop μ-loop
 power-requires c κs = search (low-place, needs)
 
+add-with : tie.Need-add-with Inv-loop μ-loop
+add-with c = record { fits = search used-fits }
+
 sub-left : tie.Need-sub-left Inv-loop μ-loop
 sub-left c = search (mask-holds, needs)
 
@@ -43,8 +48,8 @@ stored-requires c κs = search (low-place, needs)
 array-write-places : tie.Need-array-write-places Inv-loop μ-loop
 array-write-places c = search (low-place, needs)
 
-tried-requires : tie.Need-tried-requires Inv-loop μ-loop
-tried-requires c κs = (search needs, search low-place, search needs, search needs, search longer-places)
+tried-in-requires : tie.Need-tried-in-requires Inv-loop μ-loop
+tried-in-requires c κs = (search needs, search low-place, search needs, search needs, search longer-within, search longer-places)
 
 returns-3 : tie.Need-returns-3 Inv-loop μ-loop
 returns-3 c =
@@ -54,20 +59,16 @@ returns-3 c =
     let lowest = power .before in
     let unspent = lowest .before in
     let some = unspent .before in
-    let rows = some .before .before .before in (
-      ends-won _ _ _ _ _ _ _ _ _ _ _ _ _ _ _ (some .before .loop .inv) (some .if1 .left) _ (lowest .lowest .ensures) _
-          (stored .stored .ensures) _ (tried .before .before .before .stored2 .ensures) (unspent .if3 .left) _ _
-          (rows .before .row-of .ensures) (rows .row-of2 .ensures) _ (tried .tried .ensures) (c .before .if4 .taken) (c .ended3 .result) (c .ended3 .ensures .0)
-          (c .ended3 .ensures .1) (c .ended3 .ensures .2),
-      search longer-kept,
+    let rows = some .before .before .before in
+    let y = tries (some .before .loop .inv) (some .if1 .left) _ (lowest .lowest .ensures) _ (stored .stored .ensures) _ (tried .before .before .before .stored2 .ensures) in
+    let j = judges y _ _ _ _ _ (rows .before .row-of .ensures) (rows .row-of2 .ensures) (power .power .ensures .0) refl (tried .tried-in .ensures) in (
+      ends-won y (unspent .if3 .left) j (c .before .if4 .taken) (c .ended3 .result) (c .ended3 .ensures .0) (c .ended3 .ensures .1) (c .ended3 .ensures .2),
+      next-kept y,
       search needs,
     )
 
-add-used : tie.Need-add-used Inv-loop μ-loop
-add-used c = record { fits = search used-fits }
-
-set-stops-requires : tie.Need-set-stops-requires Inv-loop μ-loop
-set-stops-requires c κs =
+renew-stops-requires : tie.Need-renew-stops-requires Inv-loop μ-loop
+renew-stops-requires c κs =
     let chosen = c .before .before .before in
     let tried = chosen .before .before in
     let stored = tried .before .before .before .before in
@@ -75,18 +76,15 @@ set-stops-requires c κs =
     let lowest = power .before in
     let unspent = lowest .before in
     let some = unspent .before in
-    let rows = some .before .before .before in (
+    let rows = some .before .before .before in
+    let y = tries (some .before .loop .inv) (some .if1 .left) _ (lowest .lowest .ensures) _ (stored .stored .ensures) _ (tried .before .before .before .stored2 .ensures) in
+    let j = judges y _ _ _ _ _ (rows .before .row-of .ensures) (rows .row-of2 .ensures) (power .power .ensures .0) refl (tried .tried-in .ensures) in (
       search needs,
-      room-deeper _ _ _ _ _ _ _ _ _ _ _ _ _ _ _ (some .before .loop .inv) (some .if1 .left) _ (lowest .lowest .ensures) _
-          (stored .stored .ensures) _ (tried .before .before .before .stored2 .ensures) (unspent .if3 .left) _ _
-          (rows .before .row-of .ensures) (rows .row-of2 .ensures) _ (tried .tried .ensures) _
-          (power .power .ensures .0) (chosen .if5 .taken),
-      first-low _ _ _ _ _ _ _ _ _ _ _ _ _ _ _ (some .before .loop .inv) (some .if1 .left) _ (lowest .lowest .ensures) _
-          (stored .stored .ensures) _ (tried .before .before .before .stored2 .ensures) _ (c .before .vertex-at .ensures .0),
-      first-high _ _ _ _ _ _ _ _ _ _ _ _ _ _ _ (some .before .loop .inv) (some .if1 .left) _ (lowest .lowest .ensures) _
-          (stored .stored .ensures) _ (tried .before .before .before .stored2 .ensures) _ (c .before .vertex-at .ensures .0),
+      room-deeper y (unspent .if3 .left) j (chosen .if5 .taken),
+      first-low y _ (c .before .vertex-at .ensures .0),
+      first-high y _ (c .before .vertex-at .ensures .0),
       search needs,
-      search needs,
+      λ by-rows. some .before .loop .inv .stopping by-rows .none-first,
     )
 
 element-copy-out-without : tie.Need-element-copy-out-without Inv-loop μ-loop
@@ -99,15 +97,14 @@ element-copy-out-without c =
     let unspent = lowest .before in
     let some = unspent .before in
     let rows = some .before .before .before in
-    next-fits _ _ _ _ _ _ _ _ _ _ _ _ _ _ _ (some .before .loop .inv) (some .if1 .left) _ (lowest .lowest .ensures) _
-    (stored .stored .ensures) _ (tried .before .before .before .stored2 .ensures) (unspent .if3 .left) _ _
-    (rows .before .row-of .ensures) (rows .row-of2 .ensures) _ (tried .tried .ensures) _ (power .power .ensures .0)
-    (chosen .if5 .taken)
+    let y = tries (some .before .loop .inv) (some .if1 .left) _ (lowest .lowest .ensures) _ (stored .stored .ensures) _ (tried .before .before .before .stored2 .ensures) in
+    let j = judges y _ _ _ _ _ (rows .before .row-of .ensures) (rows .row-of2 .ensures) (power .power .ensures .0) refl (tried .tried-in .ensures) in
+    next-fits y (unspent .if3 .left) j (chosen .if5 .taken)
 
 loop-again-2 : tie.Need-loop-again-2 Inv-loop μ-loop
 loop-again-2 c =
-    let set = c .before .before in
-    let chosen = set .before .before .before .before in
+    let renewed = c .before .before in
+    let chosen = renewed .before .before .before .before in
     let tried = chosen .before .before in
     let stored = tried .before .before .before .before in
     let power = stored .before in
@@ -115,11 +112,10 @@ loop-again-2 c =
     let unspent = lowest .before in
     let some = unspent .before in
     let rows = some .before .before .before in
-    goes-deeper _ _ _ _ _ _ _ _ _ _ _ _ _ _ _ (some .before .loop .inv) (some .if1 .left) _ (lowest .lowest .ensures) _
-    (stored .stored .ensures) _ (tried .before .before .before .stored2 .ensures) (unspent .if3 .left) _ _
-    (rows .before .row-of .ensures) (rows .row-of2 .ensures) _ (tried .tried .ensures) _ (power .power .ensures .0)
-    (chosen .if5 .taken) _ _ (set .before .before .vertex-at .ensures .0) (set .set-stops .ensures .0) (set .set-stops .ensures .1) _
-    (c .without .ensures)
+    let y = tries (some .before .loop .inv) (some .if1 .left) _ (lowest .lowest .ensures) _ (stored .stored .ensures) _ (tried .before .before .before .stored2 .ensures) in
+    let j = judges y _ _ _ _ _ (rows .before .row-of .ensures) (rows .row-of2 .ensures) (power .power .ensures .0) refl (tried .tried-in .ensures) in
+    goes-deeper y (unspent .if3 .left) j _ (power .power .ensures .0) (chosen .if5 .taken) _ _ (renewed .before .before .vertex-at .ensures .0)
+    (renewed .renew-stops .ensures .0) (renewed .renew-stops .ensures .1) _ (c .without .ensures)
 
 loop-again-3 : tie.Need-loop-again-3 Inv-loop μ-loop
 loop-again-3 c =
@@ -130,19 +126,18 @@ loop-again-3 c =
     let unspent = lowest .before in
     let some = unspent .before in
     let rows = some .before .before .before in
-    tries-on _ _ _ _ _ _ _ _ _ _ _ _ _ _ _ (some .before .loop .inv) (some .if1 .left) _ (lowest .lowest .ensures) _
-    (stored .stored .ensures) _ (tried .before .before .before .stored2 .ensures) (unspent .if3 .left) _ _
-    (rows .before .row-of .ensures) (rows .row-of2 .ensures) _ (tried .tried .ensures) _ (power .power .ensures .0)
-    (c .before .if4 .left) (c .if5 .left)
+    let y = tries (some .before .loop .inv) (some .if1 .left) _ (lowest .lowest .ensures) _ (stored .stored .ensures) _ (tried .before .before .before .stored2 .ensures) in
+    let j = judges y _ _ _ _ _ (rows .before .row-of .ensures) (rows .row-of2 .ensures) (power .power .ensures .0) refl (tried .tried-in .ensures) in
+    tries-on y (unspent .if3 .left) j _ (power .power .ensures .0) (c .before .if4 .left) (c .if5 .left)
 
 pub explore-spec : {M : Type 1} → statement M
 explore-spec =
     tie.close (tie.spec Inv-loop μ-loop (λ c κs. search needs) (λ c κs. search needs) (λ c. search needs) loop-holds
     (λ c κs. search needs) returns (λ c. search needs) (λ c. search needs) weight-of-requires sub-used
     (λ c. search needs) (λ c. search needs) (λ c. search needs) loop-again (λ c κs. search needs) returns-2
-    (λ c κs. search needs) power-requires sub-left stored-requires (λ c. search needs) (λ c. search needs)
+    (λ c κs. search needs) power-requires add-with sub-left stored-requires (λ c. search needs) (λ c. search needs)
     (λ c κs. search needs) (λ c. search needs) array-write-places (λ c. search needs) (λ c. search needs)
-    (λ c. search needs) (λ c. search needs) (λ c. search needs) tried-requires (λ c κs. search needs) returns-3
-    add-used (λ c κs. search needs) set-stops-requires (λ c. search needs) (λ c. search needs) (λ c. search needs)
+    (λ c. search needs) (λ c. search needs) (λ c. search needs) tried-in-requires (λ c κs. search needs) returns-3
+    (λ c κs. search needs) renew-stops-requires (λ c. search needs) (λ c. search needs) (λ c. search needs)
     (λ c. search needs) element-copy-out-without (λ c κs. search needs) (λ c. search needs) loop-again-2
     (λ c. search needs) loop-again-3)

@@ -1,7 +1,7 @@
 use borrow.Author.Needs.{needs}
 use Prim.Native.Nat.{_-_, _≤_}
 use Rattle.kinds.specs.Kinds.{FirstIn}
-use Rattle.kinds.proofs.ColumnLaws.{first-none, first-more, first-done, place-low, place-high}
+use Rattle.kinds.proofs.PlaceLaws.{first-none, first-more, first-done, place-low, place-high}
 use Rattle.kinds.proofs.columns.first_places.Statement.{statement}
 use Rattle.kinds.proofs.columns.first_places.Tie as tie
 

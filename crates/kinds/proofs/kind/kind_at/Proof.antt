@@ -20,5 +20,5 @@ returns-5 c = search (unknown-left, needs)
 
 pub kind-at-spec : {M : Type 1} → statement M
 kind-at-spec =
-    tie.close (tie.spec (λ c κs. search needs) (λ c κs. search needs) (λ c κs. search needs) (λ c κs. search needs)
-    returns returns-2 (λ c κs. search needs) returns-3 returns-4 returns-5)
+    tie.close (tie.spec (λ c κs. search needs) (λ c κs. search needs) (λ c κs. search needs) (λ c κs. search needs) returns
+    returns-2 (λ c κs. search needs) returns-3 returns-4 returns-5)

@@ -2,6 +2,7 @@ use borrow.Author.Needs.{needs}
 use Prim.Native.Nat.{_-_, _≤_}
 use mathlib.Core.Path.{_≡_}
 use Rattle.pairs.specs.Pairs.{fromRow}
+use Rattle.plain.specs.Before.{rowBefore}
 use Rattle.turns.specs.Turns.{turnAt, walkCode}
 use Rattle.row_walks.specs.RowWords.{Later}
 use Rattle.row_walks.proofs.AlikeRows.{row-low, row-high, later-more, later-again}
@@ -10,7 +11,7 @@ use Rattle.row_walks.proofs.later.later_rows.Statement.{statement}
 use Rattle.row_walks.proofs.later.later_rows.Tie as tie
 
 abbrev Inv-loop : tie.InvT-loop
-Inv-loop edges unknowns path places n later₀ i₀ later i = (3 ≤ i) × Later n (i - 1) path later × (walkCode (turnAt edges unknowns path places) (fromRow i (n - i)) ≡ walkCode (turnAt edges unknowns path places) (fromRow 3 (n - 3)))
+Inv-loop edges unknowns path places n later₀ i₀ later i = (3 ≤ i) × Later n (i - 1) path later × (walkCode (turnAt rowBefore edges unknowns path places) (fromRow i (n - i)) ≡ walkCode (turnAt rowBefore edges unknowns path places) (fromRow 3 (n - 3)))
 
 abbrev μ-loop : tie.MeasureT-loop
 μ-loop edges unknowns path places n later₀ i₀ later i = n - i

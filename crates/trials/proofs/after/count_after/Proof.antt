@@ -17,5 +17,5 @@ returns-4 c = search (counts-last, needs)
 
 pub count-after-spec : {M : Type 1} → statement M
 count-after-spec =
-    tie.close (tie.spec (λ c κs. search needs) (λ c κs. search needs) (λ c κs. search needs) returns (λ c. search needs) returns-2
-    (λ c. search needs) returns-3 returns-4)
+    tie.close (tie.spec (λ c κs. search needs) (λ c κs. search needs) returns (λ c. search needs) returns-2 (λ c. search needs)
+    returns-3 returns-4)

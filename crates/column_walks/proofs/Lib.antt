@@ -1,0 +1,2 @@
+pub mod CodeColumns
+pub mod ColumnJudged
