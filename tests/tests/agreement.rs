@@ -50,6 +50,15 @@ fn on_every_graph_up_to_order_4() {
 }
 
 #[test]
+fn on_every_graph_of_order_5_in_one_block() {
+    for mode in MODES {
+        samples::every_graph(5)
+            .filter(|graph| graph.starts == 1)
+            .for_each(|graph| agree(&graph, mode, u32::MAX));
+    }
+}
+
+#[test]
 fn on_random_graphs_up_to_order_6() {
     let mut random = Random::new(3);
     for round in 0..500 {

@@ -112,6 +112,17 @@ fn every_graph_up_to_order_4() {
 }
 
 #[test]
+fn every_graph_of_order_5_in_one_block() {
+    tried(|trials| {
+        for graph in samples::every_graph(5).filter(|graph| graph.starts == 1) {
+            for mode in MODES {
+                trials.judge_rows(&graph, mode, u32::MAX, 10);
+            }
+        }
+    });
+}
+
+#[test]
 fn random_rows() {
     let mut random = Random::new(12);
     tried(|trials| {
