@@ -134,18 +134,31 @@ module _ (i k : ℕ) (p : List ℕ) (l : 1 ≤ i) (m : i < k) (h : Within k p) w
 -- ---- what trying comes to
 
 module _ (down k n c : ℕ) (h : c ≡ down) where
+  -- the end of a walk that ends
   pub tried-ended : (c ≡ 0 → ⊥) → c ≡ triedDown down k n
   unfolding triedDown pick
   tried-ended d = h ∙ rw (ne-eqb down 0 (λ z. d (h ∙ z)))
 
-  module _ (z : c ≡ 0) where
-    pub tried-short : k < n → 0 ≡ triedDown down k n
-    unfolding triedDown pick
-    tried-short l = rw (eq-eqb down 0 (sym h ∙ z), lt-ltb k n l)
+  -- with places left, any
+  pub tried-short : k < n → c ≡ triedDown down k n
+  unfolding triedDown pick
+  tried-short l = by-same c 0 (λ (z : c ≡ 0). z ∙ rw (eq-eqb down 0 (sym h ∙ z), lt-ltb k n l)) tried-ended
 
-    pub tried-full : n ≤ k → 1 ≡ triedDown down k n
-    unfolding triedDown pick
-    tried-full l = rw (eq-eqb down 0 (sym h ∙ z), le-ltb k n l)
+-- with none left k is n: an open one is not won
+module _ (e w p q : List ℕ) (used k n c : ℕ) (above : k ≤ n) (l : n ≤ k) (h : c ≡ walkCode (turnInColumn e w p q used) (downColumn n (n - 1))) where
+  last : c ≡ walkCode (turnInColumn e w p q used) (downColumn k (k - 1))
+  last = let same : n ≡ k = omega arith in h ∙ ap (λ (m : ℕ). walkCode (turnInColumn e w p q used) (downColumn m (m - 1))) same
+
+  pub last-open : c ≡ 0 → 1 ≡ triedDown (walkCode (turnInColumn e w p q used) (downColumn k (k - 1))) k n
+  unfolding triedDown pick
+  last-open z = rw (eq-eqb (walkCode (turnInColumn e w p q used) (downColumn k (k - 1))) 0 (sym last ∙ z), le-ltb k n l)
+
+  pub last-ended : (c ≡ 0 → ⊥) → c ≡ triedDown (walkCode (turnInColumn e w p q used) (downColumn k (k - 1))) k n
+  last-ended = tried-ended (walkCode (turnInColumn e w p q used) (downColumn k (k - 1))) k n c last
+
+-- the path has a vertex at each place
+pub last-within : (k n : ℕ) (p : List ℕ) → k ≤ n → n ≤ k → Within k p → Within n p
+last-within k n p a l h = let same : k ≡ n = omega arith in rw same at h
 
 -- in either mode
 module _ (mode x y r : ℕ) where

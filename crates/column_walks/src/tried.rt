@@ -25,17 +25,17 @@ fn tried_down<'a>(
     used: u32,
     k: u32,
 ) -> u32
-    requires { ⌜ (1 ≤ k) × (k ≤ 32) × Within k (now path) ⌝ }
+    requires { ⌜ (1 ≤ k) × (k ≤ n) × (n ≤ 32) × Within k (now path) ⌝ }
     ensures { λ r. ⌜ r ≡ triedDown (walkCode (turnInColumn (now (edges .entry)) (now (unknowns .entry)) (now (path .entry)) (now (places .entry)) used) (downColumn k (k - 1))) k n ⌝ }
 {
-    let code = column_walk(edges, unknowns, path, places, used, k);
-    if code != 0 {
-        return code;
-    }
     if k < n {
-        return 0;
+        return column_walk(edges, unknowns, path, places, used, k);
     }
-    1
+    let code = column_walk(edges, unknowns, path, places, used, n);
+    if code == 0 {
+        return 1;
+    }
+    code
 }
 
 // How the beginning is judged that ends at place k with the vertex at bit v: by rows as `tried` judges it, where the vertices
@@ -55,7 +55,7 @@ pub fn tried_in<'a>(
     v: u32,
     k: u32,
 ) -> u32
-    requires { ⌜ (n ≤ 32) × (v < 32) × (1 ≤ k) × (k ≤ 32) × Within k (now path) × (n ≤ k → Places n (now path) (now places)) ⌝ }
+    requires { ⌜ (n ≤ 32) × (v < 32) × (1 ≤ k) × (k ≤ n) × Within k (now path) × (n ≤ k → Places n (now path) (now places)) ⌝ }
     ensures { λ r. ⌜ r ≡ pick (eqb mode 2) (triedDown (walkCode (turnInColumn (now (edges .entry)) (now (unknowns .entry)) (now (path .entry)) (now (places .entry)) with) (downColumn k (k - 1))) k n) (triedBy (bit stops v) (oneAt ones doubts used (at (now (path .entry)) 1) k) (walkCode (turnAt rowBefore (now (edges .entry)) (now (unknowns .entry)) (now (path .entry)) (now (places .entry))) (fromRow 2 (n - 2))) k n) ⌝ }
 {
     if mode == 2 {
