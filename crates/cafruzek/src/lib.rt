@@ -2,6 +2,9 @@
 // An answer is one number: bits 0..31 the steps, or the place of a refusal; 32..37 the row and 38..43 the column of the
 // winning pair; 44..52 how many literals were written; 56..63 the code: 0 none, 1 smaller, 2 cut, 128 and the number of a
 // refusal.
+
+#![tactic(auto)]
+
 ghost use Rattle.std.specs.Prelude.{◌≡◌, length};
 ghost use Rattle.record.specs.Answers.{record_at, write_answer, buffer_after};
 ghost use Rattle.judging.specs.Answer.{judge_answer, judge_buffer};

@@ -1,5 +1,8 @@
 // Judges every fully drawn graph of small orders in one block, and writes how many of each order are judged "none" and
 // how many of these are connected.
+
+#![tactic(auto)]
+
 ghost use Rattle.std.specs.Prelude.{◌≡◌, ◌≤◌, ◌<◌, length};
 
 use graph::Graph;

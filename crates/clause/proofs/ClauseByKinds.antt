@@ -130,7 +130,7 @@ module _ {mode n starts : ℕ} {e u p q : List ℕ} {row column : ℕ} (won_at :
     (gone : GoneAt mode (graph_of n e u starts) p q (pair row column) x y) {old new : List ℤ} {r : ℕ}
     (done : Wrote (written_along (kind_at (before_in mode) e u q (pair row column) x y) 0 (pairs n)) old 0 new r) where
   whole : written_along (kind_at (before_in mode) e u q (pair row column) x y) 0 (pairs n) ≡ clause_of mode (graph_of n e u starts) p
-  whole = rw (gone.pair_goes, gone.image_goes_lem) (kinds_clause won_at)
+  whole = rw (gone.pair_told, gone.image_told) (kinds_clause won_at)
 
   pub clause_counted : r ≡ length (clause_of mode (graph_of n e u starts) p)
   clause_counted = omega (arith, done.counted, ap length whole)

@@ -1,4 +1,7 @@
 // Arrangements composed and inverted. Vertices and places are numbered from 1.
+
+#![tactic(auto)]
+
 pub mod composed;
 
 ghost use Rattle.std.specs.Prelude.{◌≡◌, replicate};

@@ -93,7 +93,7 @@ module _ (mode n starts : ℕ) (e u p q : List ℕ) (row column a b : ℕ) (at_r
   unfolding Settled.image_goes Settled.pair_goes before_in pick
   goes_by x y h =
       let same : last ≡ row_before (pair row column) (image p (pair row column)) = is_last ∙ ap₂ (λ (i j : ℕ). row_before (pair row column) (pair_of_two i j)) at_row at_column in
-      record { pair_goes = h.0 ∙ ap (λ (l : Bool). both pm (not (both l im))) same; image_goes_lem = h.1 ∙ ap (λ (l : Bool). both im (either l (not pm))) same }
+      record { pair_told = h.0 ∙ ap (λ (l : Bool). both pm (not (both l im))) same; image_told = h.1 ∙ ap (λ (l : Bool). both im (either l (not pm))) same }
 
   module _ (x : Bool) (may : x ≡ image_may mode (graph_of n e u starts) p q (pair row column)) where
     pub image_goes_first : last ≡ true → x ≡ true → GoneAt mode (graph_of n e u starts) p q (pair row column) false true

@@ -38,5 +38,5 @@ module _ (mode : ℕ) (g : Graph) (p q : List ℕ) (w : Pair) where
 
   -- whether what stands at w goes, and whether what stands at its image does
   pub record GoneAt (at_pair at_image : Bool) : Type 0 where
-    pub pair_goes : at_pair ≡ pair_goes
-    pub image_goes_lem : at_image ≡ image_goes
+    pub pair_told : at_pair ≡ pair_goes
+    pub image_told : at_image ≡ image_goes

@@ -1,5 +1,8 @@
 // What can be dropped at the winning pair of a certificate.
 // For the crates of this project; a caller has checked what a function asks of it.
+
+#![tactic(auto)]
+
 ghost use Rattle.std.specs.Prelude.{◌≡◌, ◌≢◌, true, false, ◌≤◌};
 ghost use Rattle.plain.specs.Plain.{pair_of_two};
 ghost use Rattle.plain.specs.Before.{before_in};

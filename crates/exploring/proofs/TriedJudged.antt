@@ -21,7 +21,7 @@ use Rattle.schemes.specs.Judging
 use Rattle.graph.specs.Counts.{entry_at}
 use Rattle.pairs.specs.Columns.{down_column}
 use Rattle.plain.specs.Before.{row_before}
-use Rattle.plain.proofs.Modes.{by_rows, by_columns_lem}
+use Rattle.plain.proofs.Modes.{by_rows_lem, by_columns_lem}
 use Rattle.judging.specs.Judging.{judged}
 use Rattle.turns.proofs.LastJudged.{judgement_code, judged_by_rows}
 use Rattle.stops.specs.Tried.{tried_by}
@@ -97,7 +97,7 @@ module _ {mode : ℕ} {g : Graph} {budget : ℕ} {blocks path₀ path untried st
   -- ---- by rows
 
   judged_by_rows_lem : mode ≢ 2 → (b : List ℕ) → judged mode g b ≡ judged_by_rows g b
-  judged_by_rows_lem d b = ap (λ (s : Scheme Pair). Judging.judged s (entry_at g) b) (by_rows mode d n)
+  judged_by_rows_lem d b = ap (λ (s : Scheme Pair). Judging.judged s (entry_at g) b) (by_rows_lem mode d n)
 
   by_its_stop : mode ≢ 2 → ByStop g longer (suc depth) stop one rows
   by_its_stop rows_mode = by_same depth 0 at_first (λ d. later (omega arith))
@@ -116,10 +116,10 @@ module _ {mode : ℕ} {g : Graph} {budget : ℕ} {blocks path₀ path untried st
           let at_depth : suc depth - 1 ≡ depth = omega arith in
           let held : get_or stops depth 0 ≡ stops_at g.edges g.unknowns (used_mask here) (at here 1) (suc depth) = rw (first, (same_first y) l) (rw at_depth at ((y.choice.state.stopping rows_mode).upto (suc depth) (omega arith) (omega arith))) in
           let by = by_stop g y.choice.state.formed here (suc t) (omega (arith, long y.choice)) y.choice.state.follows (begins l) more_begins (sym (judged_by_rows_lem rows_mode here) ∙ y.choice.state.opened depth l (omega arith)) (omega arith) (omega (arith, place_fits_lem y.choice)) low there (λ c. longer_places (omega (arith, long y.choice))) in
-          by_rows (rw (long y.choice, place, sym held, first, sym y.choice.state.in_use) at by)
+          by_rows_lem (rw (long y.choice, place, sym held, first, sym y.choice.state.in_use) at by)
         where
-          by_rows : {st on : ℕ} → ByStop g longer (suc depth) st on (walk_code (turn_at row_before g.edges g.unknowns longer there) (from_row 2 (n - 2))) → ByStop g longer (suc depth) st on rows
-          by_rows b =
+          by_rows_lem : {st on : ℕ} → ByStop g longer (suc depth) st on (walk_code (turn_at row_before g.edges g.unknowns longer there) (from_row 2 (n - 2))) → ByStop g longer (suc depth) st on rows
+          by_rows_lem b =
               record {
                 stop_wins = b.stop_wins;
                 stop_loses = b.stop_loses;

@@ -1,4 +1,3 @@
 pub mod BitLaws
 pub mod FieldLaws
 pub mod TakenLaws
-pub mod LentReader

@@ -1,4 +1,7 @@
 // Fields of bits in the caller's bytes, the most significant bit of a byte first, and a reader that keeps its bit place.
+
+#![tactic(auto)]
+
 pub mod bits;
 pub mod reader;
 

@@ -31,15 +31,15 @@ module _ (g : Graph) (t : well_formed g ≡ true) where
   unfolding well_formed
   in_range = order_in_range g.order (both_first _ _ (both_second _ _ t))
 
-  starts_fit : (start_at g.starts 1 ≡ 1) × (g.starts < 2 ^ g.order)
+  starts_fit_lem : (start_at g.starts 1 ≡ 1) × (g.starts < 2 ^ g.order)
   unfolding well_formed starts_fit
-  starts_fit =
+  starts_fit_lem =
       let h = both_first _ _ (both_second _ _ (both_second _ _ t)) in
       (eqb-true (start_at g.starts 1) 1 (both_first _ _ h), ltb-true g.starts (2 ^ g.order) (both_second _ _ h))
 
-  row_fits : (i : ℕ) → 1 ≤ i → i ≤ 32 → row_fits g.order g.edges g.unknowns i ≡ true
+  row_fits_lem : (i : ℕ) → 1 ≤ i → i ≤ 32 → row_fits g.order g.edges g.unknowns i ≡ true
   unfolding well_formed
-  row_fits i l h =
+  row_fits_lem i l h =
       all_at (row_fits g.order g.edges g.unknowns) 32 (both_second _ _ (both_second _ _ (both_second _ _ t))) i l h
 
   width : ℕ → ℕ
@@ -48,18 +48,18 @@ module _ (g : Graph) (t : well_formed g ≡ true) where
   row_widths : (i : ℕ) → 1 ≤ i → i ≤ 32 → (row g.edges i < 2 ^ width i) × (row g.unknowns i < 2 ^ width i)
   unfolding row_fits width
   row_widths i l h =
-      let f = row_fits i l h in
+      let f = row_fits_lem i l h in
       (ltb-true _ _ (both_first _ _ f), ltb-true _ _ (both_first _ _ (both_second _ _ f)))
 
   loop : (i : ℕ) → 1 ≤ i → i ≤ g.order → entry g i i ≡ 0
   unfolding row_fits
-  loop i l h = eqb-true (entry g i i) 0 (both_first _ _ (both_second _ _ (both_second _ _ (row_fits i l (omega (arith, in_range.1))))))
+  loop i l h = eqb-true (entry g i i) 0 (both_first _ _ (both_second _ _ (both_second _ _ (row_fits_lem i l (omega (arith, in_range.1))))))
 
   -- (j, i) with i before j
-  pair_fits : (i j : ℕ) → 1 ≤ i → i < j → j ≤ g.order → (entry g j i ≡ entry g i j) × (entry g j i ≤ 2)
+  pair_fits_lem : (i j : ℕ) → 1 ≤ i → i < j → j ≤ g.order → (entry g j i ≡ entry g i j) × (entry g j i ≤ 2)
   unfolding row_fits pair_fits
-  pair_fits i j l h m =
-      let f = both_second _ _ (both_second _ _ (both_second _ _ (row_fits j (omega arith) (omega (arith, in_range.1))))) in
+  pair_fits_lem i j l h m =
+      let f = both_second _ _ (both_second _ _ (both_second _ _ (row_fits_lem j (omega arith) (omega (arith, in_range.1))))) in
       let p = all_at (pair_fits g.edges g.unknowns j) (j - 1) f i l (omega arith) in
       (eqb-true (entry g j i) (entry g i j) (both_first _ _ p), leb-true (entry g j i) 2 (both_second _ _ p))
 
@@ -83,14 +83,14 @@ module _ (g : Graph) (t : well_formed g ≡ true) where
 
   small : (i j : ℕ) → 1 ≤ i → i ≤ g.order → 1 ≤ j → j ≤ g.order → entry g i j ≤ 2
   small i j li hi lj hj =
-      by_order i j (λ l. rw (sym (pair_fits i j li l hj).0) (pair_fits i j li l hj).1) (λ e. rw e (omega (arith, loop j lj hj))) (λ l. (pair_fits j i lj l hi).1)
+      by_order i j (λ l. rw (sym (pair_fits_lem i j li l hj).0) (pair_fits_lem i j li l hj).1) (λ e. rw e (omega (arith, loop j lj hj))) (λ l. (pair_fits_lem j i lj l hi).1)
 
   -- a graph that passes the test is well formed
   pub formed : WellFormed g
   formed =
       formed_by g in_range.0 in_range.1 lengths.0 lengths.1
-      (λ i j li l hj. sym (pair_fits i j li l hj).0) loop past_row past_column small starts_fit.0
-      (λ v h. bits_past g.starts g.order (v - 1) starts_fit.1 (omega arith))
+      (λ i j li l hj. sym (pair_fits_lem i j li l hj).0) loop past_row past_column small starts_fit_lem.0
+      (λ v h. bits_past g.starts g.order (v - 1) starts_fit_lem.1 (omega arith))
 
 -- ---- the other way
 

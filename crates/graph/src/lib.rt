@@ -1,4 +1,7 @@
 // Graph values, their entries, blocks and counts. Vertices are numbered from 1.
+
+#![tactic(auto)]
+
 ghost use Rattle.std.specs.Prelude.{◌≡◌, true, length};
 ghost use Rattle.graph.specs.Graph.{graph_of};
 ghost use Rattle.graph.specs.WellFormed.{well_formed};
@@ -12,7 +15,7 @@ use rows::fits::{rows_fit, starts_fit};
 
 // A partially drawn graph. The row of vertex i stands at index i - 1, and vertex j is its bit j - 1; an entry is 1 where
 // its bit is set in edges, unknown where it is set in unknowns. In starts, bit v - 1 is set where vertex v starts a block.
-#[derive(Drop)]
+#[derive(Clone, Copy)]
 pub struct Graph {
     pub order: u32,
     pub edges: [u32; 32],

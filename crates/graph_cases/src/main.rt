@@ -3,6 +3,9 @@
 // a row for each: the letter of its kind; from column 2 on the graph by its order, its starts and the first three rows
 // of edges and of unknowns; from column 11 on the other numbers; from column 20 on its name. A number is a digit: 0 to
 // 9, then a for 10 and so on.
+
+#![tactic(auto)]
+
 use composing::Arrangement;
 use graph::{Change, Graph};
 use libc::STDIN_FILENO;

@@ -1,6 +1,9 @@
 // What a judgement is: its verdict, and what stands beside it. There is no code here: specs/ says what judging means, and proofs/ what
 // follows from it.
 
+#![tactic(auto)]
+
+
 // How a judgement ended. Steps are the beginnings tried.
 #[derive(Drop)]
 pub enum Verdict {

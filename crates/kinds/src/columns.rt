@@ -38,7 +38,7 @@ fn place_before(mode: u32, row: u32, column: u32) -> u32
 }
 
 // The vertices at the places up to that one, up to the winning pair's row, and up to its column, as masks.
-#[derive(Drop)]
+#[derive(Clone, Copy)]
 pub struct Masks {
     pub less: u32,
     pub at: u32,

@@ -13,7 +13,7 @@ use rows::entries::entry_in;
 use turns::before::{comes_before, is_before};
 
 // What is left out at the winning pair: what stands there itself, or at its image.
-#[derive(Drop)]
+#[derive(Clone, Copy)]
 pub struct Without {
     pub pair: bool,
     pub image: bool,

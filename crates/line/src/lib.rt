@@ -1,4 +1,7 @@
 // A line of the listing, put into a lent buffer.
+
+#![tactic(auto)]
+
 mod fields;
 
 ghost use Rattle.std.specs.Prelude.{◌≡◌, min, length};

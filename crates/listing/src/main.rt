@@ -1,4 +1,7 @@
 // Lists a book of records that comes on standard input: a header, and a line for each record.
+
+#![tactic(auto)]
+
 mod lines;
 
 ghost use Rattle.std.specs.Prelude.{◌≤◌, length};

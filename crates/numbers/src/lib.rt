@@ -1,5 +1,8 @@
 // Numbers of up to 62 bits in the caller's bytes, taken eight bytes at a time.
 // For the crates of this project; a caller has checked what a function asks of it.
+
+#![tactic(auto)]
+
 pub mod gathered;
 
 ghost use Rattle.std.specs.Prelude.{◌≡◌, ◌+◌, ◌*◌, ◌≤◌, ◌<◌, length, get_or};

@@ -1,5 +1,8 @@
 // The pairs i < j in row order: how many there are, and the number of each. What is defined of them stands in specs/, and the
 // laws in proofs/. Those of this file are for the crates of this project; a caller has checked what a function asks of it.
+
+#![tactic(auto)]
+
 pub mod vertices;
 
 ghost use Rattle.std.specs.Prelude.{◌≡◌, ◌*◌, ◌≤◌};

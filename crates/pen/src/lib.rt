@@ -1,5 +1,8 @@
 // A pen that writes fields of bits, and stores eight bytes at a time.
 // For the crates of this project; a caller has checked what a function asks of it.
+
+#![tactic(auto)]
+
 ghost use Rattle.std.specs.Prelude.{◌≡◌, ◌+◌, ◌*◌, ◌≤◌, ◌<◌, ◌^◌, length};
 ghost use Rattle.pen.specs.Pushed.{stored, IsPushed};
 

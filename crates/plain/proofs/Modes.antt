@@ -25,9 +25,9 @@ pub by_columns_lem : (mode : ℕ) → mode ≡ 2 → (n : ℕ) → by_mode mode 
 unfolding compared_in judged_in pick
 by_columns_lem mode e n = ap (λ (b : Bool). plain (pick b (columns n) (pairs n)) (λ k. pick b (columns k) (judged_on n k))) (eq-eqb mode 2 e)
 
-pub by_rows : (mode : ℕ) → (mode ≡ 2 → ⊥) → (n : ℕ) → by_mode mode n ≡ by_rows n
+pub by_rows_lem : (mode : ℕ) → (mode ≡ 2 → ⊥) → (n : ℕ) → by_mode mode n ≡ by_rows n
 unfolding compared_in judged_in pick
-by_rows mode d n = ap (λ (b : Bool). plain (pick b (columns n) (pairs n)) (λ k. pick b (columns k) (judged_on n k))) (ne_eqb mode 2 d)
+by_rows_lem mode d n = ap (λ (b : Bool). plain (pick b (columns n) (pairs n)) (λ k. pick b (columns k) (judged_on n k))) (ne_eqb mode 2 d)
 
 module _ (mode : ℕ) where
   pub mode_lawful : (n : ℕ) → Lawful n (by_mode mode n)

@@ -1,4 +1,7 @@
 // Reads the fields of a record through a reader, two at a time, to its end and past it, and writes a line for each two.
+
+#![tactic(auto)]
+
 use fields::Value;
 use fields::reader::take_two;
 use show::filled;

@@ -1,4 +1,7 @@
 // Reading records: how many bytes one takes, its graph, and the bytes that follow it.
+
+#![tactic(auto)]
+
 mod lines;
 mod parts;
 mod refused;

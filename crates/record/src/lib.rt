@@ -1,5 +1,8 @@
 // A record holds a graph in bits, the most significant of a byte first: 6 bits of order, a bit for each vertex from 2
 // on that says whether it starts a block, 2 bits for each pair in row order, and zero bits to the end of the byte.
+
+#![tactic(auto)]
+
 pub mod layout;
 
 ghost use Rattle.std.specs.Prelude.{◌≡◌};

@@ -2,6 +2,9 @@
 // a row for each, with its numbers in hexadecimal: the letter of its kind; from column 2 on how many bytes it is given,
 // and from column 6 on the first five of them, with zeros after; from column 17 on a place, an order or a room; at
 // column 34 a width; from column 36 on its name.
+
+#![tactic(auto)]
+
 use graph::Graph;
 use libc::STDIN_FILENO;
 use show::{byte, filled, from_column, text};

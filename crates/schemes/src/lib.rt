@@ -1,1 +1,4 @@
 // Judging over any scheme of comparison, with no graph in it: there is no code here, definitions stand in specs/ and laws in proofs/.
+
+#![tactic(auto)]
+

@@ -1,4 +1,7 @@
 // Judging a partially drawn graph: does some permitted renumbering make every full drawing of it smaller in dictionary order?
+
+#![tactic(auto)]
+
 ghost use Rattle.std.specs.Prelude.{◌≡◌, true, ◌++◌, ◌-◌, ◌≤◌, length, take, drop, replicate, leb};
 ghost use Rattle.beginnings.specs.Beginning.{Beginning};
 ghost use Rattle.beginnings.specs.Search.{won};

@@ -1,4 +1,7 @@
 // What the programs that show cases print with: text, and numbers between its parts. No public one gives a result.
+
+#![tactic(auto)]
+
 use libc::STDOUT_FILENO;
 
 // These bytes.

@@ -1,4 +1,7 @@
 // Tables of text: rows that end with a line's end, with digits at their columns.
+
+#![tactic(auto)]
+
 ghost use Rattle.std.specs.Prelude.{◌≡◌, ◌+◌, ◌%◌, ◌<◌, drop};
 ghost use Rattle.tables.specs.Table.{row_length, digit_value, digit_at, hex_from};
 

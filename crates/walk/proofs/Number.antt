@@ -21,10 +21,10 @@ one_pair {k} {k'} a b =
     same_place a.before k a.after b.before k' b.after (sym a.split ∙ b.split) (omega (arith, a.count, b.count))
 
 -- each pair of ks has a number
-pub has_number : {P : Type 0} {ks : List P} {k : P} → Memᴰ k ks → (m : ℕ) × Numbered ks k m
-has_number {k} (Memᴰ.head {x = j} {xs = ks} e) =
+pub has_number : {P : Type 0} {k : P} {ks : List P} → Memᴰ k ks → (m : ℕ) × Numbered ks k m
+has_number {k = k} (Memᴰ.head {x = j} {xs = ks} e) =
     (1, record { before = []; after = ks; split = ap (λ i. i ∷ ks) (sym e); count = refl })
-has_number {k} (Memᴰ.tail {x = j} {xs = ks} m) =
+has_number {k = k} (Memᴰ.tail {x = j} {xs = ks} m) =
     let (n, at) = has_number m in (
       suc n,
       record { before = j ∷ at.before; after = at.after; split = ap (λ l. j ∷ l) at.split; count = ap suc at.count },

@@ -1,5 +1,8 @@
 // Words of 32 bits, and rows of them turned over.
 // For the crates of this project; a caller has checked what a function asks of it.
+
+#![tactic(auto)]
+
 pub mod turned;
 
 ghost use Rattle.std.specs.Prelude.{◌≡◌, ◌-◌, ◌*◌, ◌≤◌, ◌<◌, ◌^◌};

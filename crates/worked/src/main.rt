@@ -3,6 +3,9 @@
 // record has, from column 5 on the first six of them, with zeros after, and from column 18 on a budget; from column 27
 // on other numbers, each a digit: the mode of a judgement, or what else its kind has, with an arrangement from column 28
 // on; from column 32 on its name. A digit is 0 to 9, then a for 10 and so on.
+
+#![tactic(auto)]
+
 use graph::Graph;
 use judging::Judged;
 use libc::{STDIN_FILENO, STDOUT_FILENO};

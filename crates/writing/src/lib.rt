@@ -1,4 +1,7 @@
 // Writing the record of a graph.
+
+#![tactic(auto)]
+
 mod put;
 
 ghost use Rattle.std.specs.Prelude.{◌≡◌};

@@ -1,0 +1,13 @@
+use borrow.Author.Rules.{rules}
+use Prim.Native.Nat.{◌-◌}
+use Rattle.words.proofs.Filled.{placed_starts, placed_turns, placed_done}
+use Rattle.arrangements.proofs.moved.moved_rows.Goals as goal
+
+pub loop-i-init : goal.loop-i-init
+loop-i-init c = search (placed_starts, rules)
+
+pub loop-i-preserved : goal.loop-i-preserved
+loop-i-preserved c = search (placed_turns, rules)
+
+pub returns : goal.returns
+returns c = search (placed_done, rules)
