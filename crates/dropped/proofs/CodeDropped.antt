@@ -19,7 +19,7 @@ use Rattle.turns.specs.Next.{pairs_after}
 use Rattle.kinds.specs.Kinds.{kind_at}
 use Rattle.trials.specs.After.{turn_after}
 use Rattle.dropped.specs.Dropping.{WinsAt, image_may, pair_may, GoneAt}
-use Rattle.dropped.proofs.Winning.{row_before}
+use Rattle.dropped.proofs.Winning.{row_before_lem}
 use Rattle.dropped.proofs.Trying.{image_kept, image_tried, pair_kept, pair_tried}
 
 -- ---- the kind of the pair of two
@@ -40,7 +40,7 @@ module _ {mode n starts : ℕ} {e u p q : List ℕ} {row column : ℕ} (won_at :
 
   module _ (c : ℕ) (kind : c ≡ kind_at (before_in mode) e u q (pair row column) false false (pair_of_two row column)) where
     kind_here_lem : kind_at (before_in mode) e u q (pair row column) false false (pair row column) ≡ c
-    kind_here_lem = sym (kind ∙ ap (kind_at (before_in mode) e u q (pair row column) false false) (two_rising row column (row_before won_at)))
+    kind_here_lem = sym (kind ∙ ap (kind_at (before_in mode) e u q (pair row column) false false) (two_rising row column (row_before_lem won_at)))
 
     pub pair_stands : c ≡ 0 → false ≡ pair_may mode (graph_of n e u starts) p q (pair row column)
     pair_stands z = pair_kept won_at (kind_here_lem ∙ z)

@@ -72,23 +72,23 @@ module _ {mode n starts : ℕ} {e u p q : List ℕ} {row column : ℕ} (won_at :
   pub row_low : 1 ≤ row
   row_low = (winning_is won_at).from_low
 
-  pub row_before : row < column
-  row_before = (winning_is won_at).rising
+  pub row_before_lem : row < column
+  row_before_lem = (winning_is won_at).rising
 
   pub column_high : column ≤ n
   column_high = (winning_is won_at).to_high
 
   pub column_low : 1 ≤ column
-  column_low = omega (arith, row_low, row_before)
+  column_low = omega (arith, row_low, row_before_lem)
 
   pub row_fits : row ≤ 32
-  row_fits = omega (arith, row_before, column_high, order_high)
+  row_fits = omega (arith, row_before_lem, column_high, order_high)
 
   pub row_high : row ≤ n
-  row_high = omega (arith, row_before, column_high)
+  row_high = omega (arith, row_before_lem, column_high)
 
   pub row_apart : row ≢ column
-  row_apart e = omega (arith, row_before)
+  row_apart e = omega (arith, row_before_lem)
 
   pub column_fits : column ≤ 32
   column_fits = omega (arith, column_high, order_high)
@@ -102,10 +102,10 @@ module _ {mode n starts : ℕ} {e u p q : List ℕ} {row column : ℕ} (won_at :
   -- the vertices at the winning pair
   module _ (a b : ℕ) (at_row : a ≡ at p row) (at_column : b ≡ at p column) where
     pub first_low : 1 ≤ a
-    first_low = rw at_row (reorders.low row row_low (omega (arith, row_before, column_high)))
+    first_low = rw at_row (reorders.low row row_low (omega (arith, row_before_lem, column_high)))
 
     pub first_high : a ≤ n
-    first_high = rw at_row (reorders.high row row_low (omega (arith, row_before, column_high)))
+    first_high = rw at_row (reorders.high row row_low (omega (arith, row_before_lem, column_high)))
 
     pub second_low : 1 ≤ b
     second_low = rw at_column (reorders.low column column_low column_high)
@@ -114,4 +114,4 @@ module _ {mode n starts : ℕ} {e u p q : List ℕ} {row column : ℕ} (won_at :
     second_high = rw at_column (reorders.high column column_low column_high)
 
     pub two_vertices : a ≢ b
-    two_vertices e = reorders.once column row row_low row_before column_high (sym at_column ∙ sym e ∙ at_row)
+    two_vertices e = reorders.once column row row_low row_before_lem column_high (sym at_column ∙ sym e ∙ at_row)

@@ -1,0 +1,84 @@
+use borrow.Author.Rules.{rules}
+use Prim.Native.Nat.{◌-◌}
+use mathlib.Core.Path.{refl}
+use Rattle.graph.proofs.Formed.{formed}
+use Rattle.exploring.proofs.Searching.{begins}
+use Rattle.exploring.proofs.Trying.{next_kept}
+use Rattle.exploring.proofs.CodeSearch.{path_kept, ends_none, last_low, last_high, last_used, climbs, ends_cut, low_place, mask_holds, used_fits, tries, longer_within, longer_places, first_low, first_high, judges, ends_won, tries_on, goes_deeper, room_deeper, next_fits}
+use Rattle.exploring.proofs.explore.explore.Goals as goal
+
+pub loop-left-init : goal.loop-left-init
+loop-left-init c = search (begins, formed)
+
+pub returns-then-depth-eq0 : goal.returns-then-depth-eq0
+returns-then-depth-eq0 c = (search ends_none, search path_kept, search rules)
+
+pub weight_of-used-requires : goal.weight_of-used-requires
+weight_of-used-requires c = (search last_low, search last_high)
+
+pub overflow_sub-used : goal.overflow_sub-used
+overflow_sub-used c = search (last_used, rules)
+
+pub loop-left-preserved-then-left-eq0 : goal.loop-left-preserved-then-left-eq0
+loop-left-preserved-then-left-eq0 c = search climbs
+
+pub returns-then-steps-budget : goal.returns-then-steps-budget
+returns-then-steps-budget c = (search ends_cut, search path_kept, search rules)
+
+pub power-weight-requires : goal.power-weight-requires
+power-weight-requires c = search (low_place, rules)
+
+pub overflow_add-with : goal.overflow_add-with
+overflow_add-with c = record { fits = search used_fits }
+
+pub overflow_sub-left : goal.overflow_sub-left
+overflow_sub-left c = search (mask_holds, rules)
+
+pub stored-requires : goal.stored-requires
+stored-requires c = search (low_place, rules)
+
+pub bounds-places-v : goal.bounds-places-v
+bounds-places-v c = search (low_place, rules)
+
+pub tried_in-code-requires : goal.tried_in-code-requires
+tried_in-code-requires c = (search rules, search low_place, search rules, search rules, search longer_within, search longer_places)
+
+pub returns-then-code-eq2 : goal.returns-then-code-eq2
+returns-then-code-eq2 c =
+    let y = tries c.loop-left.invariant c.if-left-eq0.false _ c.lowest-v.ensures _ c.stored.ensures _ c.stored-else-left-eq0.ensures in
+    let j = judges y _ _ _ _ _ c.row_of-ones.ensures c.row_of-doubts.ensures c.power-weight.ensures.0 refl c.tried_in-code.ensures in (
+      ends_won y c.if-steps-budget.false j c.if-code-eq2.true c.ended-then-code-eq2.result c.ended-then-code-eq2.ensures.0 c.ended-then-code-eq2.ensures.1 c.ended-then-code-eq2.ensures.2,
+      next_kept y,
+      search rules,
+    )
+
+pub renew_stops-requires : goal.renew_stops-requires
+renew_stops-requires c =
+    let y = tries c.loop-left.invariant c.if-left-eq0.false _ c.lowest-v.ensures _ c.stored.ensures _ c.stored-else-left-eq0.ensures in
+    let j = judges y _ _ _ _ _ c.row_of-ones.ensures c.row_of-doubts.ensures c.power-weight.ensures.0 refl c.tried_in-code.ensures in (
+      search rules,
+      room_deeper y c.if-steps-budget.false j c.if-code-eq0.true,
+      first_low y _ c.vertex_at.ensures.0,
+      first_high y _ c.vertex_at.ensures.0,
+      search rules,
+      λ by_rows. (c.loop-left.invariant.stopping by_rows).none_first,
+    )
+
+pub bounds-blocks-depth : goal.bounds-blocks-depth
+bounds-blocks-depth c =
+    let y = tries c.loop-left.invariant c.if-left-eq0.false _ c.lowest-v.ensures _ c.stored.ensures _ c.stored-else-left-eq0.ensures in
+    let j = judges y _ _ _ _ _ c.row_of-ones.ensures c.row_of-doubts.ensures c.power-weight.ensures.0 refl c.tried_in-code.ensures in
+    next_fits y c.if-steps-budget.false j c.if-code-eq0.true
+
+pub loop-left-preserved-then-code-eq0 : goal.loop-left-preserved-then-code-eq0
+loop-left-preserved-then-code-eq0 c =
+    let y = tries c.loop-left.invariant c.if-left-eq0.false _ c.lowest-v.ensures _ c.stored.ensures _ c.stored-else-left-eq0.ensures in
+    let j = judges y _ _ _ _ _ c.row_of-ones.ensures c.row_of-doubts.ensures c.power-weight.ensures.0 refl c.tried_in-code.ensures in
+    goes_deeper y c.if-steps-budget.false j _ c.power-weight.ensures.0 c.if-code-eq0.true _ _ c.vertex_at.ensures.0
+    c.renew_stops.ensures.0 c.renew_stops.ensures.1 _ c.without-left.ensures
+
+pub loop-left-preserved : goal.loop-left-preserved
+loop-left-preserved c =
+    let y = tries c.loop-left.invariant c.if-left-eq0.false _ c.lowest-v.ensures _ c.stored.ensures _ c.stored-else-left-eq0.ensures in
+    let j = judges y _ _ _ _ _ c.row_of-ones.ensures c.row_of-doubts.ensures c.power-weight.ensures.0 refl c.tried_in-code.ensures in
+    tries_on y c.if-steps-budget.false j _ c.power-weight.ensures.0 c.if-code-eq2.false c.if-code-eq0.false

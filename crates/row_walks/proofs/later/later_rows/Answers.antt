@@ -1,0 +1,38 @@
+use borrow.Author.Rules.{rules}
+use Prim.Native.Nat.{◌-◌}
+use Rattle.row_walks.proofs.AlikeRows.{row_low, row_high, later_more, later_again}
+use Rattle.row_walks.proofs.CodeRows.{rows_go_on, rows_pass, rows_end, rows_over}
+use Rattle.row_walks.proofs.later.later_rows.Goals as goal
+
+pub without_place-later-requires : goal.without_place-later-requires
+without_place-later-requires c = (search rules, search rules, search row_low, search row_high)
+
+pub is_passed-requires : goal.is_passed-requires
+is_passed-requires c = (search rules, search rules, search rules, search rules, search later_more)
+
+pub loop-i-preserved-then-is_passed : goal.loop-i-preserved-then-is_passed
+loop-i-preserved-then-is_passed c =
+    (
+      search rules,
+      search later_again,
+      rows_pass _ _ _ _ c.loop-i.invariant.2 _ c.loop-i-test.true
+          (λ y. c.is_passed.ensures y _) c.if-is_passed.true,
+    )
+
+pub row_walk-code-requires : goal.row_walk-code-requires
+row_walk-code-requires c = (search rules, search rules, search rules, search rules, search later_more)
+
+pub loop-i-preserved : goal.loop-i-preserved
+loop-i-preserved c =
+    (
+      search rules,
+      search later_again,
+      rows_go_on _ _ _ _ c.loop-i.invariant.2 _ c.loop-i-test.true
+          c.row_walk-code.ensures c.if-code-eq0.true,
+    )
+
+pub returns-else-code-eq0 : goal.returns-else-code-eq0
+returns-else-code-eq0 c = search (rows_end, rules)
+
+pub returns : goal.returns
+returns c = search (rows_over, rules)
