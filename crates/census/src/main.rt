@@ -7,8 +7,9 @@ ghost use Rattle.std.specs.Prelude.{◌≡◌, ◌≤◌, ◌<◌, length};
 
 use graph::Graph;
 use judging::Verdict;
-use libc::STDOUT_FILENO;
 use rows::entries::mark;
+use std::io;
+use std::io::Print;
 
 // How many graphs are judged "none", and how many of these are connected.
 #[derive(Drop)]
@@ -157,36 +158,24 @@ fn tally_all(order: u32, codes: u32) -> Tally
     }
 }
 
-fn text(words: &[u8]) {
-    io::write_all(STDOUT_FILENO, words);
-}
-
-fn number(n: u32) {
-    io::print_decimal(STDOUT_FILENO, n as u64);
-}
-
 // The line of an order, which has so many graphs.
-fn show(order: u32, codes: u32)
+fn show(to: &impl Print, order: u32, codes: u32) -> io::Result<()>
     requires { order ≤ 32 }
 {
     let all = tally_all(order, codes);
-    text(b"order ");
-    number(order);
-    text(b": ");
-    number(all.smallest);
-    text(b" of ");
-    number(codes);
-    text(b" graphs are judged none, ");
-    number(all.connected);
-    text(b" of these are connected\n");
+    let smallest = all.smallest;
+    let connected = all.connected;
+    println!(to;
+        "order {order}: {smallest} of {codes} graphs are judged none, {connected} of these are connected"
+    )
 }
 
-fn main() {
-    show(1, 1);
-    show(2, 2);
-    show(3, 8);
-    show(4, 64);
-    show(5, 1024);
-    show(6, 32768);
-    show(7, 2097152);
+fn main(rt: HostRuntime) -> io::Result<()> {
+    show(&rt, 1, 1)?;
+    show(&rt, 2, 2)?;
+    show(&rt, 3, 8)?;
+    show(&rt, 4, 64)?;
+    show(&rt, 5, 1024)?;
+    show(&rt, 6, 32768)?;
+    show(&rt, 7, 2097152)
 }

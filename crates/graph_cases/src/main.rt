@@ -8,8 +8,10 @@
 
 use composing::Arrangement;
 use graph::{Change, Graph};
-use libc::STDIN_FILENO;
+use input::read_full;
 use show::{filled, from_column, text};
+use std::io;
+use std::io::Print;
 use tables::{digit_at, row_end};
 
 // ---- what a row holds
@@ -47,17 +49,19 @@ fn arrangement(row: &[u8], column: u32) -> [u8; 32] {
 
 // ---- what is printed
 
-fn show_rows(template: &[u8], rows: [u32; 32]) {
+fn show_rows(to: &impl Print, template: &[u8], rows: [u32; 32]) -> io::Result<()> {
     filled(
+        to,
         template,
         [rows[0] as u64, rows[1] as u64, rows[2] as u64, 0, 0, 0],
-    );
+    )
 }
 
 // Rows 1, 2 and 3 of a graph of order 3.
-fn show_change(c: Change) {
+fn show_change(to: &impl Print, c: Change) -> io::Result<()> {
     let g = c.graph;
     filled(
+        to,
         b" refusal #, place #, order #, starts #",
         [
             c.refusal as u64,
@@ -67,16 +71,17 @@ fn show_change(c: Change) {
             0,
             0,
         ],
-    );
+    )?;
     let edges = g.edges;
-    show_rows(b", edges # # #", edges);
+    show_rows(to, b", edges # # #", edges)?;
     let unknowns = g.unknowns;
-    show_rows(b", unknowns # # #\n", unknowns);
+    show_rows(to, b", unknowns # # #\n", unknowns)
 }
 
 // Places 1 to 4.
-fn show_arrangement(a: Arrangement) {
+fn show_arrangement(to: &impl Print, a: Arrangement) -> io::Result<()> {
     filled(
+        to,
         b" refusal #, place #, vertices # # # #\n",
         [
             a.refusal as u64,
@@ -86,34 +91,39 @@ fn show_arrangement(a: Arrangement) {
             a.vertices[2] as u64,
             a.vertices[3] as u64,
         ],
-    );
+    )
 }
 
 // ---- the kinds of case
 
-fn formed(row: &[u8]) {
+fn formed(to: &impl Print, row: &[u8]) -> io::Result<()> {
     if graph(row).is_well_formed() {
-        text(b" well formed\n");
+        text(to, b" well formed\n")
     } else {
-        text(b" not well formed\n");
+        text(to, b" not well formed\n")
     }
 }
 
-fn read(row: &[u8]) {
+fn read(to: &impl Print, row: &[u8]) -> io::Result<()> {
     let r = graph(row).read(digit_at(row, 11), digit_at(row, 12));
     filled(
+        to,
         b" refusal #, place #, value #\n",
         [r.refusal as u64, r.place as u64, r.value as u64, 0, 0, 0],
-    );
+    )
 }
 
-fn set(row: &[u8]) {
-    show_change(graph(row).set(digit_at(row, 11), digit_at(row, 12), digit_at(row, 13)));
+fn set(to: &impl Print, row: &[u8]) -> io::Result<()> {
+    show_change(
+        to,
+        graph(row).set(digit_at(row, 11), digit_at(row, 12), digit_at(row, 13)),
+    )
 }
 
-fn count(row: &[u8]) {
+fn count(to: &impl Print, row: &[u8]) -> io::Result<()> {
     let t = graph(row).count();
     filled(
+        to,
         b" refusal #, place #, edges #, non-edges #, unknowns #\n",
         [
             t.refusal as u64,
@@ -123,68 +133,72 @@ fn count(row: &[u8]) {
             t.unknowns as u64,
             0,
         ],
-    );
+    )
 }
 
-fn count_at(row: &[u8]) {
+fn count_at(to: &impl Print, row: &[u8]) -> io::Result<()> {
     let d = graph(row).count_at(digit_at(row, 11));
     filled(
+        to,
         b" refusal #, place #, edges #\n",
         [d.refusal as u64, d.place as u64, d.edges as u64, 0, 0, 0],
-    );
+    )
 }
 
-fn relabel(row: &[u8]) {
-    show_change(graph(row).relabel(arrangement(row, 11)));
+fn relabel(to: &impl Print, row: &[u8]) -> io::Result<()> {
+    show_change(to, graph(row).relabel(arrangement(row, 11)))
 }
 
-fn compose(row: &[u8]) {
-    show_arrangement(composing::compose(
-        digit_at(row, 2),
-        arrangement(row, 11),
-        arrangement(row, 15),
-    ));
+fn compose(to: &impl Print, row: &[u8]) -> io::Result<()> {
+    show_arrangement(
+        to,
+        composing::compose(digit_at(row, 2), arrangement(row, 11), arrangement(row, 15)),
+    )
 }
 
-fn invert(row: &[u8]) {
-    show_arrangement(composing::invert(digit_at(row, 2), arrangement(row, 11)));
+fn invert(to: &impl Print, row: &[u8]) -> io::Result<()> {
+    show_arrangement(
+        to,
+        composing::invert(digit_at(row, 2), arrangement(row, 11)),
+    )
 }
 
-fn case(row: &[u8]) {
+fn case(to: &impl Print, row: &[u8]) -> io::Result<()> {
     if row.len() == 0 {
-        return;
+        return Ok(());
     }
-    from_column(row, 20);
-    text(b":");
+    from_column(to, row, 20)?;
+    text(to, b":")?;
     let kind = row[0];
     match kind {
-        b'f' => formed(row),
-        b'r' => read(row),
-        b's' => set(row),
-        b't' => count(row),
-        b'd' => count_at(row),
-        b'l' => relabel(row),
-        b'c' => compose(row),
-        _ => invert(row),
+        b'f' => formed(to, row),
+        b'r' => read(to, row),
+        b's' => set(to, row),
+        b't' => count(to, row),
+        b'd' => count_at(to, row),
+        b'l' => relabel(to, row),
+        b'c' => compose(to, row),
+        _ => invert(to, row),
     }
 }
 
 // ---- the cases
 
-fn cases(table: &[u8]) {
+fn cases(to: &impl Print, table: &[u8]) -> io::Result<()> {
     let mut at = 0;
     while at < table.len() {
         let end = row_end(table, at);
         if table.len() <= end {
-            return;
+            return Ok(());
         }
-        case(&table[at..end]);
+        case(to, &table[at..end])?;
         at = end + 1;
     }
+    Ok(())
 }
 
-fn main() {
-    let mut table = io::large_buffer();
-    let given = io::read_full(STDIN_FILENO, &mut table);
-    cases(&table[..given]);
+fn main(rt: HostRuntime) -> io::Result<()> {
+    let mut table = [0u8; 65536];
+    let given = read_full(&mut rt.reader(), &mut table)?;
+    cases(&rt, &table[..given])
 }

@@ -20,7 +20,7 @@ pub struct Extent {
 }
 
 // The graph of a record that was read, or why not.
-#[derive(Drop)]
+#[derive(Clone, Copy)]
 pub struct Record {
     pub refusal: u32,
     pub place: usize,

@@ -6,8 +6,10 @@
 #![tactic(auto)]
 
 use graph::Graph;
-use libc::STDIN_FILENO;
+use input::read_full;
 use show::{byte, filled, from_column, text};
+use std::io;
+use std::io::Print;
 use tables::{byte_at, digit_at, hex_at, row_end};
 use text::parts::first_bytes;
 
@@ -26,17 +28,19 @@ fn bytes(row: &[u8]) -> [u8; 130] {
 // ---- the kinds of case
 
 // The first row stands for the graph's rows.
-fn show_rows(edges: u32, unknowns: u32, rest: usize) {
+fn show_rows(to: &impl Print, edges: u32, unknowns: u32, rest: usize) -> io::Result<()> {
     filled(
+        to,
         b" edges # unknowns # rest #\n",
         [edges as u64, unknowns as u64, rest as u64, 0, 0, 0],
-    );
+    )
 }
 
-fn read(bytes: &[u8]) {
+fn read(to: &impl Print, bytes: &[u8]) -> io::Result<()> {
     let r = reading::read(bytes);
     let g = r.graph;
     filled(
+        to,
         b" refusal # place # order # starts #",
         [
             r.refusal as u64,
@@ -46,80 +50,84 @@ fn read(bytes: &[u8]) {
             0,
             0,
         ],
-    );
-    show_rows(g.edges[0], g.unknowns[0], reading::rest(bytes).len());
+    )?;
+    show_rows(to, g.edges[0], g.unknowns[0], reading::rest(bytes).len())
 }
 
-fn field(bytes: &[u8], place: usize, width: u32) {
+fn field(to: &impl Print, bytes: &[u8], place: usize, width: u32) -> io::Result<()> {
     let r = fields::field(bytes, place, width);
     filled(
+        to,
         b" refusal # place # value #\n",
         [r.refusal as u64, r.place as u64, r.value as u64, 0, 0, 0],
-    );
+    )
 }
 
-fn size(order: u32) {
+fn size(to: &impl Print, order: u32) -> io::Result<()> {
     let r = record::size(order);
     filled(
+        to,
         b" refusal # place # bytes #\n",
         [r.refusal as u64, r.place as u64, r.bytes as u64, 0, 0, 0],
-    );
+    )
 }
 
 // What writing a graph into the first bytes of a buffer of four gives, and the four bytes afterwards.
-fn write(graph: Graph, room: usize) {
+fn write(to: &impl Print, graph: Graph, room: usize) -> io::Result<()> {
     if 4 < room {
-        return;
+        return Ok(());
     }
     let mut out = [0xffu8; 4];
     let r = writing::write(graph, &mut out[..room]);
     filled(
+        to,
         b" refusal # place # written # buffer",
         [r.refusal as u64, r.place as u64, r.written as u64, 0, 0, 0],
-    );
-    byte(out[0]);
-    byte(out[1]);
-    byte(out[2]);
-    byte(out[3]);
-    text(b"\n");
+    )?;
+    byte(to, out[0])?;
+    byte(to, out[1])?;
+    byte(to, out[2])?;
+    byte(to, out[3])?;
+    text(to, b"\n")
 }
 
-fn show(kind: u8, bytes: &[u8], number: u64, width: u32) {
+fn show(to: &impl Print, kind: u8, bytes: &[u8], number: u64, width: u32) -> io::Result<()> {
     match kind {
-        b'r' => read(bytes),
-        b'f' => field(bytes, number as usize, width),
-        b's' => size((number % 256) as u32),
-        _ => write(reading::read(bytes).graph, number as usize),
+        b'r' => read(to, bytes),
+        b'f' => field(to, bytes, number as usize, width),
+        b's' => size(to, (number % 256) as u32),
+        _ => write(to, reading::read(bytes).graph, number as usize),
     }
 }
 
-fn case(row: &[u8]) {
+fn case(to: &impl Print, row: &[u8]) -> io::Result<()> {
     if row.len() == 0 {
-        return;
+        return Ok(());
     }
-    from_column(row, 36);
-    text(b":");
+    from_column(to, row, 36)?;
+    text(to, b":")?;
     let whole = bytes(row);
     let given = first_bytes(&whole, hex_at(row, 2, 3) as usize);
-    show(row[0], given, hex_at(row, 17, 16), digit_at(row, 34));
+    show(to, row[0], given, hex_at(row, 17, 16), digit_at(row, 34))
 }
 
 // ---- the cases
 
-fn cases(table: &[u8]) {
+fn cases(to: &impl Print, table: &[u8]) -> io::Result<()> {
     let mut at = 0;
     while at < table.len() {
         let end = row_end(table, at);
         if table.len() <= end {
-            return;
+            return Ok(());
         }
-        case(&table[at..end]);
+        case(to, &table[at..end])?;
         at = end + 1;
     }
+    Ok(())
 }
 
-fn main() {
-    let mut table = io::large_buffer();
-    let given = io::read_full(STDIN_FILENO, &mut table);
-    cases(&table[..given]);
+fn main(rt: HostRuntime) -> io::Result<()> {
+    let mut table = [0u8; 65536];
+    let given = read_full(&mut rt.reader(), &mut table)?;
+    cases(&rt, &table[..given])
 }

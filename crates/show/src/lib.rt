@@ -1,46 +1,50 @@
-// What the programs that show cases print with: text, and numbers between its parts. No public one gives a result.
+// What the programs that show cases print with: text, and numbers between its parts. None says more than that a write failed.
 
 #![tactic(auto)]
 
-use libc::STDOUT_FILENO;
+use std::io;
+use std::io::Print;
 
 // These bytes.
-pub fn text(words: &[u8]) {
-    io::write_all(STDOUT_FILENO, words);
+pub fn text(out: &impl Print, words: &[u8]) -> io::Result<()> {
+    out.write_all(words)
 }
 
 // A byte as two digits, after a space.
-pub fn byte(b: u8) {
-    text(b" ");
-    io::print_hex(STDOUT_FILENO, b as u64, 2);
+pub fn byte(out: &impl Print, b: u8) -> io::Result<()> {
+    print!(out; " {b:02x}")
 }
 
 // A row of a table from a column on.
-pub fn from_column(row: &[u8], column: usize) {
+pub fn from_column(out: &impl Print, row: &[u8], column: usize) -> io::Result<()> {
     if column < row.len() {
-        text(&row[column..]);
+        text(out, &row[column..])?;
     }
+    Ok(())
 }
 
 // The value at an index, if there is one.
-fn value(values: [u64; 6], k: usize) {
+fn value(out: &impl Print, values: [u64; 6], k: usize) -> io::Result<()> {
     if k < 6 {
-        io::print_decimal(STDOUT_FILENO, values[k]);
+        let n = values[k];
+        print!(out; "{n}")?;
     }
+    Ok(())
 }
 
 // A template with the values put where it has #, one after the other.
-pub fn filled(template: &[u8], values: [u64; 6]) {
+pub fn filled(out: &impl Print, template: &[u8], values: [u64; 6]) -> io::Result<()> {
     let mut k = 0usize;
     let mut i = 0;
     while i < template.len() {
         if template[i] == b'#' {
-            value(values, k);
+            value(out, values, k)?;
             k += 1;
             i += 1;
         } else {
-            text(&template[i..i + 1]);
+            text(out, &template[i..i + 1])?;
             i += 1;
         }
     }
+    Ok(())
 }

@@ -7,9 +7,11 @@
 #![tactic(auto)]
 
 use graph::Graph;
+use input::read_full;
 use judging::Judged;
-use libc::{STDIN_FILENO, STDOUT_FILENO};
 use show::{byte, filled, from_column, text};
+use std::io;
+use std::io::Print;
 use tables::{byte_at, digit_at, hex_at, row_end};
 use text::parts::first_bytes;
 
@@ -46,154 +48,157 @@ fn arrangement(row: &[u8]) -> [u8; 32] {
 // ---- judging and writing
 
 // The line of the listing for a judged graph.
-fn show(order: u32, judged: Judged, literals: &[i32]) {
-    let mut out = io::buffer();
+fn show(to: &impl Print, order: u32, judged: Judged, literals: &[i32]) -> io::Result<()> {
+    let mut out = [0u8; 4096];
     let used = line::line(&mut out, 1, order, judged, literals);
-    text(b" ");
-    io::write_all(STDOUT_FILENO, &out[..used]);
+    text(to, b" ")?;
+    text(to, &out[..used])
 }
 
-fn judge(graph: Graph, mode: u32, budget: u32) {
+fn judge(to: &impl Print, graph: Graph, mode: u32, budget: u32) -> io::Result<()> {
     let mut literals = [0i32; 496];
     let judged = search::judge(graph, mode, budget, &mut literals);
-    show(graph.order, judged, &literals);
+    show(to, graph.order, judged, &literals)
 }
 
 // Judging with room for 495 literals.
-fn judge_cramped(graph: Graph, mode: u32, budget: u32) {
+fn judge_cramped(to: &impl Print, graph: Graph, mode: u32, budget: u32) -> io::Result<()> {
     let mut few = [0i32; 495];
     let judged = search::judge(graph, mode, budget, &mut few);
-    show(graph.order, judged, &few);
+    show(to, graph.order, judged, &few)
 }
 
 // Judging without a block start.
-fn malformed(mut graph: Graph, mode: u32) {
+fn malformed(to: &impl Print, mut graph: Graph, mode: u32) -> io::Result<()> {
     graph.starts = 0;
-    judge(graph, mode, 1000000);
+    judge(to, graph, mode, 1000000)
 }
 
 // The record of one or two bytes that writing gives.
-fn write(graph: Graph) {
+fn write(to: &impl Print, graph: Graph) -> io::Result<()> {
     let mut out = [0u8; 129];
     let done = writing::write(graph, &mut out);
-    text(b" record");
-    byte(out[0]);
+    text(to, b" record")?;
+    byte(to, out[0])?;
     if 1 < done.written {
-        byte(out[1]);
+        byte(to, out[1])?;
     }
-    text(b"\n");
+    text(to, b"\n")
 }
 
 // ---- refusals
 
-fn refusal(refusal: u32, place: usize) {
+fn refusal(to: &impl Print, refusal: u32, place: usize) -> io::Result<()> {
     filled(
+        to,
         b" refusal #, place #\n",
         [refusal as u64, place as u64, 0, 0, 0, 0],
-    );
+    )
 }
 
-fn read(bytes: &[u8]) {
+fn read(to: &impl Print, bytes: &[u8]) -> io::Result<()> {
     let found = reading::read(bytes);
-    refusal(found.refusal, found.place);
+    refusal(to, found.refusal, found.place)
 }
 
-fn field(bytes: &[u8], place: u32, width: u32) {
+fn field(to: &impl Print, bytes: &[u8], place: u32, width: u32) -> io::Result<()> {
     let found = fields::field(bytes, place as usize, width);
-    refusal(found.refusal, found.place);
+    refusal(to, found.refusal, found.place)
 }
 
 // Writing into one byte.
-fn write_cramped(graph: Graph) {
+fn write_cramped(to: &impl Print, graph: Graph) -> io::Result<()> {
     let mut out = [0u8; 1];
     let done = writing::write(graph, &mut out);
-    refusal(done.refusal, done.place);
+    refusal(to, done.refusal, done.place)
 }
 
-fn entry(graph: Graph, i: u32, j: u32) {
+fn entry(to: &impl Print, graph: Graph, i: u32, j: u32) -> io::Result<()> {
     let found = graph.read(i, j);
-    refusal(found.refusal, found.place);
+    refusal(to, found.refusal, found.place)
 }
 
-fn degree(graph: Graph, v: u32) {
+fn degree(to: &impl Print, graph: Graph, v: u32) -> io::Result<()> {
     let found = graph.count_at(v);
-    refusal(found.refusal, found.place);
+    refusal(to, found.refusal, found.place)
 }
 
-fn set(graph: Graph, i: u32, j: u32, value: u32) {
+fn set(to: &impl Print, graph: Graph, i: u32, j: u32, value: u32) -> io::Result<()> {
     let changed = graph.set(i, j, value);
-    refusal(changed.refusal, changed.place);
+    refusal(to, changed.refusal, changed.place)
 }
 
-fn relabel(graph: Graph, p: [u8; 32]) {
+fn relabel(to: &impl Print, graph: Graph, p: [u8; 32]) -> io::Result<()> {
     let changed = graph.relabel(p);
-    refusal(changed.refusal, changed.place);
+    refusal(to, changed.refusal, changed.place)
 }
 
-fn compose(order: u32, p: [u8; 32]) {
+fn compose(to: &impl Print, order: u32, p: [u8; 32]) -> io::Result<()> {
     let joined = composing::compose(order, p, p);
-    refusal(joined.refusal, joined.place);
+    refusal(to, joined.refusal, joined.place)
 }
 
-fn invert(order: u32, p: [u8; 32]) {
+fn invert(to: &impl Print, order: u32, p: [u8; 32]) -> io::Result<()> {
     let back = composing::invert(order, p);
-    refusal(back.refusal, back.place);
+    refusal(to, back.refusal, back.place)
 }
 
 // ---- the cases
 
 // The cases that have a graph.
-fn case_of(row: &[u8], kind: u8, graph: Graph) {
+fn case_of(to: &impl Print, row: &[u8], kind: u8, graph: Graph) -> io::Result<()> {
     match kind {
-        b'j' => judge(graph, digit_at(row, 27), budget(row)),
-        b'k' => judge_cramped(graph, digit_at(row, 27), budget(row)),
-        b'm' => malformed(graph, digit_at(row, 27)),
-        b'w' => write(graph),
-        b'o' => write_cramped(graph),
-        b'e' => entry(graph, digit_at(row, 27), digit_at(row, 28)),
-        b'd' => degree(graph, digit_at(row, 27)),
+        b'j' => judge(to, graph, digit_at(row, 27), budget(row)),
+        b'k' => judge_cramped(to, graph, digit_at(row, 27), budget(row)),
+        b'm' => malformed(to, graph, digit_at(row, 27)),
+        b'w' => write(to, graph),
+        b'o' => write_cramped(to, graph),
+        b'e' => entry(to, graph, digit_at(row, 27), digit_at(row, 28)),
+        b'd' => degree(to, graph, digit_at(row, 27)),
         b's' => set(
+            to,
             graph,
             digit_at(row, 27),
             digit_at(row, 28),
             digit_at(row, 29),
         ),
-        _ => relabel(graph, arrangement(row)),
+        _ => relabel(to, graph, arrangement(row)),
     }
 }
 
-fn case(row: &[u8]) {
+fn case(to: &impl Print, row: &[u8]) -> io::Result<()> {
     if row.len() == 0 {
-        return;
+        return Ok(());
     }
-    from_column(row, 32);
-    text(b":");
+    from_column(to, row, 32)?;
+    text(to, b":")?;
     let whole = bytes(row);
     let given = first_bytes(&whole, hex_at(row, 2, 2) as usize);
     let kind = row[0];
     match kind {
-        b'r' => read(given),
-        b'f' => field(given, digit_at(row, 27), digit_at(row, 28)),
-        b'c' => compose(digit_at(row, 27), arrangement(row)),
-        b'i' => invert(digit_at(row, 27), arrangement(row)),
-        _ => case_of(row, kind, reading::read(given).graph),
+        b'r' => read(to, given),
+        b'f' => field(to, given, digit_at(row, 27), digit_at(row, 28)),
+        b'c' => compose(to, digit_at(row, 27), arrangement(row)),
+        b'i' => invert(to, digit_at(row, 27), arrangement(row)),
+        _ => case_of(to, row, kind, reading::read(given).graph),
     }
 }
 
-fn cases(table: &[u8]) {
+fn cases(to: &impl Print, table: &[u8]) -> io::Result<()> {
     let mut at = 0;
     while at < table.len() {
         let end = row_end(table, at);
         if table.len() <= end {
-            return;
+            return Ok(());
         }
-        case(&table[at..end]);
+        case(to, &table[at..end])?;
         at = end + 1;
     }
+    Ok(())
 }
 
-fn main() {
-    let mut table = io::large_buffer();
-    let given = io::read_full(STDIN_FILENO, &mut table);
-    cases(&table[..given]);
+fn main(rt: HostRuntime) -> io::Result<()> {
+    let mut table = [0u8; 65536];
+    let given = read_full(&mut rt.reader(), &mut table)?;
+    cases(&rt, &table[..given])
 }
