@@ -3,7 +3,6 @@
 
 #![tactic(auto)]
 
-
 // How a judgement ended. Steps are the beginnings tried.
 #[derive(Drop)]
 pub enum Verdict {

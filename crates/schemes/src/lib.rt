@@ -1,4 +1,3 @@
 // Judging over any scheme of comparison, with no graph in it: there is no code here, definitions stand in specs/ and laws in proofs/.
 
 #![tactic(auto)]
-

@@ -11,25 +11,23 @@ pub is_passed-requires : goal.is_passed-requires
 is_passed-requires c = (search rules, search rules, search rules, search rules, search later_more)
 
 pub loop-i-preserved-then-is_passed : goal.loop-i-preserved-then-is_passed
-loop-i-preserved-then-is_passed c =
-    (
-      search rules,
-      search later_again,
-      rows_pass _ _ _ _ c.loop-i.invariant.2 _ c.loop-i-test.true
-          (λ y. c.is_passed.ensures y _) c.if-is_passed.true,
-    )
+loop-i-preserved-then-is_passed c = (
+  search rules,
+  search later_again,
+  rows_pass _ _ _ _ c.loop-i.invariant.2 _ c.loop-i-test.true
+      (λ y. c.is_passed.ensures y _) c.if-is_passed.true,
+)
 
 pub row_walk-code-requires : goal.row_walk-code-requires
 row_walk-code-requires c = (search rules, search rules, search rules, search rules, search later_more)
 
 pub loop-i-preserved : goal.loop-i-preserved
-loop-i-preserved c =
-    (
-      search rules,
-      search later_again,
-      rows_go_on _ _ _ _ c.loop-i.invariant.2 _ c.loop-i-test.true
-          c.row_walk-code.ensures c.if-code-eq0.true,
-    )
+loop-i-preserved c = (
+  search rules,
+  search later_again,
+  rows_go_on _ _ _ _ c.loop-i.invariant.2 _ c.loop-i-test.true
+      c.row_walk-code.ensures c.if-code-eq0.true,
+)
 
 pub returns-else-code-eq0 : goal.returns-else-code-eq0
 returns-else-code-eq0 c = search (rows_end, rules)
