@@ -8,8 +8,6 @@ use lib.Seq.{get_or-take}
 use Rattle.laws.specs.Bit.{bit}
 use Rattle.laws.specs.BitLaws.{bit_of_zero}
 use Rattle.laws.specs.Compared.{by_same}
-use Rattle.beginnings.specs.Search.{first}
-use Rattle.beginnings.specs.Search
 use Rattle.beginnings.proofs.Follows.{beginning_of}
 use mathlib.Core.Logic.{◌≢◌}
 use lib.Dec.{eqb}

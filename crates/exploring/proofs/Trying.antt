@@ -7,7 +7,6 @@ use mathlib.Core.List.{List, [], ◌∷◌, ◌++◌, Memᴰ}
 use lib.ListN.{length, get_or, set, take, drop, length-set}
 use lib.Seq.{get_or-set_same, get_or-set_other, take-suc-set, take-set-le, drop-set-lt, get_or-take}
 use Rattle.laws.specs.Compared.{by_same}
-use Rattle.beginnings.specs.Search
 use Rattle.beginnings.proofs.Follows.{beginning_of, mem_at}
 use Rattle.graph.specs.declared.Graph.{Graph}
 use Rattle.rows.specs.Rows.{block_of}

@@ -27,7 +27,6 @@ use Rattle.rows.specs.Rows.{block_of, mirrored}
 use Rattle.graph.specs.WellFormed.{WellFormed}
 use Rattle.graph.specs.Counts.{entry_at}
 use Rattle.graph.proofs.Drawn.{drawn_entry, drawn_formed}
-use Rattle.arrangements.specs.Arrangement.{at}
 use Rattle.judging.specs.Order.{FullyDrawn}
 use Rattle.judging.specs.Judging.{steps_for, padded}
 use Rattle.judging.specs.Answer.{told, judge_answer}

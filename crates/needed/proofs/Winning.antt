@@ -9,7 +9,7 @@ use mathlib.Core.List.{List, Memᴰ}
 use Rattle.laws.specs.Test.{pick}
 use Rattle.laws.specs.TestLaws.{fails}
 use Rattle.walk.specs.Walk.{walk}
-use Rattle.walk.specs.Meeting.{met, listed}
+use Rattle.walk.specs.Meeting.{met}
 use Rattle.walk.proofs.Put.{one_or_two}
 use Rattle.needed.specs.Settled.{Turned, WonWalk, driven_to, settled, stays, staying, wins_by}
 use Rattle.needed.proofs.Enough.{won_test}

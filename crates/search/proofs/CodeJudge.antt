@@ -26,7 +26,7 @@ use Rattle.plain.specs.Before.{before_in}
 use Rattle.graph.specs.declared.Graph.{Graph}
 use Rattle.rows.specs.Rows.{block_of}
 use Rattle.graph.specs.WellFormed.{WellFormed, well_formed}
-use Rattle.arrangements.specs.Arrangement.{at, Permitted, is_reordering, is_permitted}
+use Rattle.arrangements.specs.Arrangement.{Permitted, is_reordering, is_permitted}
 use Rattle.pairs.specs.Pairs.{pair, pairs, pair_count}
 use Rattle.graph.specs.Counts.{entry_at}
 use Rattle.graph.proofs.Formed.{formed}

@@ -1,5 +1,5 @@
 -- Walks by number, and the pair at which an arrangement wins.
-use Prim.Native.Nat.{ℕ, ◌-◌, ◌≤◌}
+use Prim.Native.Nat.{ℕ, ◌≤◌}
 use native.Mathlib.Omega.{arith}
 use mathlib.Core.Path.{◌≡◌, refl, sym, ap, ap₂, ◌∙◌}
 use mathlib.Core.Bool.{Bool}
@@ -11,7 +11,6 @@ use Rattle.laws.specs.Each.{Each, each_first, each_rest}
 use Rattle.laws.specs.Pigeonhole.{Injects}
 use Rattle.walk.specs.Walk.{Move, skips, wins, goes_on, drives_zero, drives_one, loses, Outcome, won, lost, still_open, ending}
 use Rattle.walk.specs.Free.{free_move, edge_by, gap_by, free}
-use Rattle.beginnings.specs.Search
 use Rattle.schemes.specs.Judging.{walk_of}
 use Rattle.schemes.proofs.Inverse.{inverse, inverse_before, inverse_reorders}
 use Rattle.schemes.proofs.Free.{free_alike, free_first}
@@ -20,12 +19,10 @@ use Rattle.plain.specs.Before.{before_in}
 use Rattle.plain.proofs.Modes.{mode_lawful, mode_ordered, mode_given, mode_itself}
 use Rattle.graph.specs.declared.Graph.{Graph}
 use Rattle.graph.specs.WellFormed.{WellFormed}
-use Rattle.words.specs.Placed.{row}
 use Rattle.arrangements.specs.Arrangement.{at}
 use Rattle.pairs.specs.Pairs.{Pair, Between}
 use Rattle.graph.specs.Counts.{entry_at}
 use Rattle.judging.specs.Judging.{walk_all}
-use Rattle.judging.specs.Judging
 use Rattle.turns.specs.Turns.{turn_at, walk_code, first_pair, Places}
 use Rattle.turns.proofs.CodeTurns.{reorders}
 use Rattle.turns.proofs.TurnCodes.{code_of, turn_code}

@@ -1,6 +1,5 @@
 use borrow.Author.Rules.{rules}
 use Rattle.census.proofs.Marked.{marked_long}
-use Prim.Native.Nat.{◌-◌}
 use Rattle.census.proofs.draw_row.Goals as goal
 
 pub loop-j-preserved : goal.loop-j-preserved

@@ -1,4 +1,3 @@
-use Prim.Native.Nat.{◌-◌}
 use Rattle.numbers.proofs.WordLaws.{bytes_start, bytes_more, bytes_fit, times_fit, bytes_done}
 use borrow.Author.Rules.{rules}
 use Rattle.numbers.proofs.few_at.Goals as goal

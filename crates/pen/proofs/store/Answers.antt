@@ -1,4 +1,3 @@
-use Prim.Native.Nat.{◌-◌}
 use Rattle.pen.proofs.CodePen.{store_starts, store_turns, store_done, stored_kept, store_room}
 use borrow.Author.Rules.{rules}
 use Rattle.pen.proofs.store.Goals as goal

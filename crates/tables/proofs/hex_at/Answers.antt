@@ -1,5 +1,4 @@
 use borrow.Author.Rules.{rules}
-use Prim.Native.Nat.{◌-◌}
 use Rattle.tables.proofs.Tables.{hex_starts, hex_turns, hex_done}
 use Rattle.tables.proofs.hex_at.Goals as goal
 

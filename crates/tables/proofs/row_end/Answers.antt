@@ -1,5 +1,4 @@
 use borrow.Author.Rules.{rules}
-use Prim.Native.Nat.{◌-◌}
 use Rattle.tables.proofs.Tables.{row_stops, row_turns, row_done}
 use Rattle.tables.proofs.row_end.Goals as goal
 

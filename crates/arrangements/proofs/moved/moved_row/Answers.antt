@@ -1,5 +1,4 @@
 use borrow.Author.Rules.{rules}
-use Prim.Native.Nat.{◌-◌}
 use Rattle.laws.specs.Loops.{word_starts}
 use Rattle.arrangements.proofs.CodePlaces.{row_of_place, moved_turns, moved_done, bit_grows, bit_fits}
 use Rattle.arrangements.proofs.moved.moved_row.Goals as goal

@@ -1,5 +1,4 @@
 use borrow.Author.Rules.{rules}
-use Prim.Native.Nat.{◌-◌}
 use Rattle.words.proofs.Filled.{placed_starts, placed_turns, placed_done}
 use Rattle.arrangements.proofs.moved.moved_rows.Goals as goal
 

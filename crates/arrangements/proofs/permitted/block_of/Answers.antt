@@ -1,6 +1,5 @@
 use borrow.Author.Rules.{rules}
 use Rattle.arrangements.proofs.CodeTests.{block_turns}
-use Prim.Native.Nat.{◌-◌}
 use Rattle.laws.specs.Loops.{sum_starts, sum_done}
 use Rattle.arrangements.proofs.permitted.block_of.Goals as goal
 

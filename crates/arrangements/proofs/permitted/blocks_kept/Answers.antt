@@ -1,5 +1,4 @@
 use borrow.Author.Rules.{rules}
-use Prim.Native.Nat.{◌-◌}
 use Rattle.laws.specs.Loops.{all_starts, all_turns, all_done, all_stops}
 use Rattle.arrangements.proofs.CodeTests.{vertex_in}
 use Rattle.arrangements.proofs.permitted.blocks_kept.Goals as goal

@@ -1,5 +1,4 @@
 use borrow.Author.Rules.{rules}
-use Prim.Native.Nat.{◌-◌}
 use Rattle.laws.specs.Loops.{all_starts, all_turns}
 use Rattle.arrangements.proofs.CodeTests.{new_done, new_stops}
 use Rattle.arrangements.proofs.reordering.is_new.Goals as goal

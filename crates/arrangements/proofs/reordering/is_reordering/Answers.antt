@@ -1,5 +1,4 @@
 use borrow.Author.Rules.{rules}
-use Prim.Native.Nat.{◌-◌}
 use Rattle.laws.specs.Loops.{all_starts, all_turns}
 use Rattle.arrangements.proofs.CodeTests.{reordering_done, reordering_stops}
 use Rattle.arrangements.proofs.reordering.is_reordering.Goals as goal

@@ -1,5 +1,4 @@
 use borrow.Author.Rules.{rules}
-use Prim.Native.Nat.{◌-◌}
 use Rattle.clause.proofs.Completing.{completing_starts, completing_ends, place_below, used_fits, completing_turns}
 use Rattle.clause.proofs.certificate.complete.Goals as goal
 

@@ -1,5 +1,4 @@
 use borrow.Author.Rules.{rules}
-use Prim.Native.Nat.{◌-◌}
 use Rattle.clause.proofs.CodeCertificate.{path_low, path_high, used_longer, used_small, used_starts, used_done}
 use Rattle.clause.proofs.certificate.used_mask.Goals as goal
 

@@ -1,5 +1,4 @@
 use borrow.Author.Rules.{rules}
-use Prim.Native.Nat.{◌-◌}
 use Rattle.kinds.proofs.PlaceLaws.{places_tested, masked_there}
 use Rattle.clause.proofs.Writing.{rows_begin, rows_done, room_for, rows_turn}
 use Rattle.clause.proofs.written.write_pairs.Goals as goal

@@ -1,5 +1,4 @@
 use borrow.Author.Rules.{rules}
-use Prim.Native.Nat.{◌-◌}
 use Rattle.clause.proofs.Writing.{along_begins, along_done, column_in_lem, column_after, lowest_small, column_fits, next_column_fits, number_fits, next_number_fits, number_small, fewer_left, room_left, along_turns}
 use Rattle.clause.proofs.written.write_row.Goals as goal
 

@@ -1,5 +1,4 @@
 use borrow.Author.Rules.{rules}
-use Prim.Native.Nat.{◌-◌}
 use Rattle.column_walks.proofs.CodeColumns.{down_goes_on, down_ends, down_begins, down_over}
 use Rattle.column_walks.proofs.column.column_walk.Goals as goal
 

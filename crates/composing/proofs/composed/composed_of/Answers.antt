@@ -1,5 +1,4 @@
 use borrow.Author.Rules.{rules}
-use Prim.Native.Nat.{◌-◌}
 use Rattle.words.proofs.Filled.{placed_starts, placed_turns}
 use Rattle.composing.proofs.CodeComposed.{composed_done}
 use Rattle.composing.proofs.composed.composed_of.Goals as goal

@@ -1,5 +1,4 @@
 use borrow.Author.Rules.{rules}
-use Prim.Native.Nat.{◌-◌}
 use Rattle.composing.proofs.CodeComposed.{inverse_starts, inverse_turns, inverse_done}
 use Rattle.composing.proofs.composed.inverse_of.Goals as goal
 

@@ -1,5 +1,4 @@
 use borrow.Author.Rules.{rules}
-use Prim.Native.Nat.{◌-◌}
 use mathlib.Core.Path.{refl}
 use Rattle.graph.proofs.Formed.{formed}
 use Rattle.exploring.proofs.Searching.{begins}

@@ -1,5 +1,4 @@
 use borrow.Author.Rules.{rules}
-use Prim.Native.Nat.{◌-◌}
 use Rattle.words.proofs.Filled.{placed_starts, placed_done}
 use Rattle.exploring.proofs.CodeMasks.{mask_first, mask_next, masks_more}
 use Rattle.exploring.proofs.masks.block_masks.Goals as goal

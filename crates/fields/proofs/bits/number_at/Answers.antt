@@ -1,4 +1,3 @@
-use Prim.Native.Nat.{◌-◌}
 use borrow.Author.Rules.{rules}
 use Rattle.fields.proofs.BitLaws.{number_none, number_done, number_turn, number_turn_small}
 use Rattle.fields.proofs.bits.number_at.Goals as goal

@@ -1,5 +1,4 @@
 use borrow.Author.Rules.{rules}
-use Prim.Native.Nat.{◌-◌}
 use Rattle.kinds.proofs.PlaceLaws.{first_none, first_more, first_done, place_low, place_high}
 use Rattle.kinds.proofs.columns.first_places.Goals as goal
 

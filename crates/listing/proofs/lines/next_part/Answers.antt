@@ -1,6 +1,5 @@
 use borrow.Author.Rules.{rules}
 use native.Mathlib.Omega.{arith}
-use Prim.Native.Nat.{◌-◌}
 use Rattle.listing.proofs.Parts.{none_yet, ends_refused, takes_some, ends_here, goes_on}
 use Rattle.listing.proofs.lines.next_part.Goals as goal
 

@@ -1,4 +1,3 @@
-use Prim.Native.Nat.{◌-◌}
 use Rattle.reading.proofs.LineLaws.{lines_start, lines_room, unknowns_turn, edges_turn, lines_done}
 use borrow.Author.Rules.{rules}
 use Rattle.reading.proofs.lines.fill_lines.Goals as goal

@@ -1,4 +1,3 @@
-use Prim.Native.Nat.{◌-◌}
 use borrow.Author.Rules.{rules}
 use Rattle.laws.specs.Loops.{word_starts, word_grows, word_fits}
 use Rattle.reading.proofs.PartLaws.{start_more, starts_done}

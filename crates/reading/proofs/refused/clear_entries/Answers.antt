@@ -1,4 +1,3 @@
-use Prim.Native.Nat.{◌-◌}
 use Rattle.reading.proofs.RefusedLaws.{clear_starts, clear_more}
 use borrow.Author.Rules.{rules}
 use Rattle.reading.proofs.refused.clear_entries.Goals as goal

@@ -1,4 +1,3 @@
-use Prim.Native.Nat.{◌-◌}
 use Rattle.reading.proofs.RefusedLaws.{first_on, first_found, none_found}
 use borrow.Author.Rules.{rules}
 use Rattle.reading.proofs.refused.first_refused.Goals as goal

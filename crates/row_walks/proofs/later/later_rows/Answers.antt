@@ -1,5 +1,4 @@
 use borrow.Author.Rules.{rules}
-use Prim.Native.Nat.{◌-◌}
 use Rattle.row_walks.proofs.AlikeRows.{row_low, row_high, later_more, later_again}
 use Rattle.row_walks.proofs.CodeRows.{rows_go_on, rows_pass, rows_end, rows_over}
 use Rattle.row_walks.proofs.later.later_rows.Goals as goal

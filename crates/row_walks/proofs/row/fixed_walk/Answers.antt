@@ -1,5 +1,4 @@
 use borrow.Author.Rules.{rules}
-use Prim.Native.Nat.{◌-◌}
 use Rattle.row_walks.proofs.CodeRows.{within_low, within_high, fixed_goes_on, fixed_ends, row_over}
 use Rattle.row_walks.proofs.FixedRow.{fixed_stays}
 use Rattle.row_walks.proofs.row.fixed_walk.Goals as goal

@@ -1,5 +1,4 @@
 use borrow.Author.Rules.{rules}
-use Prim.Native.Nat.{◌-◌}
 use Rattle.row_walks.proofs.CodeRows.{within_low, within_high, words_go_on, words_end, row_over}
 use Rattle.row_walks.proofs.row.words_walk.Goals as goal
 

@@ -1,5 +1,4 @@
 use borrow.Author.Rules.{rules}
-use Prim.Native.Nat.{◌-◌}
 use Rattle.laws.specs.Loops.{sum_starts, sum_turns, sum_done}
 use Rattle.rows.proofs.entries.ones_in.Goals as goal
 

@@ -1,4 +1,3 @@
-use Prim.Native.Nat.{◌-◌}
 use Rattle.rows.proofs.CodeStanding.{faults_start, faults_turn, faults_done}
 use borrow.Author.Rules.{rules}
 use Rattle.rows.proofs.fits.rows_stand.Goals as goal

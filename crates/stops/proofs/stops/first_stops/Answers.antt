@@ -1,5 +1,4 @@
 use borrow.Author.Rules.{rules}
-use Prim.Native.Nat.{◌-◌}
 use Rattle.stops.proofs.CodeStops.{made_begin, made_more, made_all}
 use Rattle.stops.proofs.stops.first_stops.Goals as goal
 

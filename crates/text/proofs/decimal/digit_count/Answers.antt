@@ -1,5 +1,4 @@
 use borrow.Author.Rules.{rules}
-use Prim.Native.Nat.{◌-◌}
 use Rattle.text.proofs.Decimals.{fewest_turns, fewest_stops, fewest_done}
 use Rattle.text.proofs.decimal.digit_count.Goals as goal
 

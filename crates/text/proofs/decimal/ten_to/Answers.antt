@@ -1,5 +1,4 @@
 use borrow.Author.Rules.{rules}
-use Prim.Native.Nat.{◌-◌}
 use Rattle.text.proofs.Decimals.{ten_fits, ten_turns, ten_done}
 use Rattle.text.proofs.decimal.ten_to.Goals as goal
 

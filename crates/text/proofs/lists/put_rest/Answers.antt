@@ -1,5 +1,4 @@
 use borrow.Author.Rules.{rules}
-use Prim.Native.Nat.{◌-◌}
 use Rattle.text.specs.Decimal.{decimal}
 use Rattle.text.proofs.Commas.{list_turns, list_done}
 use Rattle.text.proofs.lists.put_rest.Goals as goal

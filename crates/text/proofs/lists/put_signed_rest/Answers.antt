@@ -1,5 +1,4 @@
 use borrow.Author.Rules.{rules}
-use Prim.Native.Nat.{◌-◌}
 use lib.IntN.{pos}
 use Rattle.text.specs.Decimal.{signed}
 use Rattle.text.proofs.Commas.{signed_list_turns, list_done}

@@ -1,5 +1,4 @@
 use borrow.Author.Rules.{rules}
-use Prim.Native.Nat.{◌-◌}
 use Rattle.text.proofs.Pages.{text_turns, text_done}
 use Rattle.text.proofs.page.put.Goals as goal
 

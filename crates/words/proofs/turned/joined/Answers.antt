@@ -1,4 +1,3 @@
-use Prim.Native.Nat.{◌-◌}
 use Rattle.words.proofs.Filled.{placed_starts, placed_done}
 use Rattle.words.proofs.CodeStages.{halves_turn}
 use borrow.Author.Rules.{rules}

@@ -1,4 +1,3 @@
-use Prim.Native.Nat.{◌-◌}
 use Rattle.words.proofs.Filled.{placed_starts}
 use Rattle.words.proofs.CodeStages.{stage_turns, stage_done}
 use borrow.Author.Rules.{rules}

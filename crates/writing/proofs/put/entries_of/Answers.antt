@@ -1,4 +1,3 @@
-use Prim.Native.Nat.{◌-◌}
 use Rattle.writing.proofs.PutLaws.{along_starts, along_more, along_done, entry_fits, fourfold_fits}
 use borrow.Author.Rules.{rules}
 use Rattle.writing.proofs.put.entries_of.Goals as goal

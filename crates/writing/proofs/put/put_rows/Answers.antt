@@ -1,4 +1,3 @@
-use Prim.Native.Nat.{◌-◌}
 use native.Mathlib.Nat.{le_trans}
 use Rattle.writing.proofs.Reached.{kept_small, pushed_later}
 use Rattle.writing.proofs.PutLaws.{row_small, row_room, row_pushed, rows_done}

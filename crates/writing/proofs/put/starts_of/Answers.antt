@@ -1,4 +1,3 @@
-use Prim.Native.Nat.{◌-◌}
 use Rattle.fields.proofs.BitLaws.{number_none, number_turn, number_done}
 use Rattle.writing.proofs.PutLaws.{start_fits, twice_fits}
 use borrow.Author.Rules.{rules}
