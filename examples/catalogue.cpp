@@ -1,7 +1,7 @@
 /* Lists every network of an order that meets a wish, each once, as graph6 lines.
  *
- *     rt staticlib cafruzek && apt-get install g++ libz3-dev
- *     c++ -std=c++17 -O2 -Iinclude examples/catalogue.cpp target/staticlib/libcafruzek.a -lz3 -o catalogue
+ *     (cd crates/cafruzek && rt lib) && apt-get install g++ libz3-dev
+ *     c++ -std=c++17 -O2 -Iinclude examples/catalogue.cpp crates/cafruzek/out/libcafruzek.a -lz3 -o catalogue
  *     ./catalogue --order 8 --connected --triangle-free --most-links-at-a-node 3
  *
  * Z3 draws: it has a variable for each link, and formulas for the wish. While it is

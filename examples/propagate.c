@@ -1,8 +1,8 @@
 /* How a solver calls the checker: after each assignment its propagator hands over
  * the half-drawn graph, and adds the clause that comes back.
  *
- *     rt staticlib cafruzek
- *     cc -Iinclude examples/propagate.c target/staticlib/libcafruzek.a -o propagate && ./propagate
+ *     (cd crates/cafruzek && rt lib)
+ *     cc -Iinclude examples/propagate.c crates/cafruzek/out/libcafruzek.a -o propagate && ./propagate
  */
 #include <stdio.h>
 

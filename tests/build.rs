@@ -30,7 +30,7 @@ fn main() {
 
     if env::var_os("CARGO_FEATURE_LIBRARY").is_some() {
         let named = env::var_os("CAFRUZEK_LIB").map(PathBuf::from);
-        let folder = named.unwrap_or_else(|| home.join("../target/staticlib"));
+        let folder = named.unwrap_or_else(|| home.join("../crates/cafruzek/out"));
         println!("cargo:rustc-link-search=native={}", folder.display());
         println!("cargo:rustc-link-lib=static=cafruzek");
         println!("cargo:rerun-if-changed={}", folder.join("libcafruzek.a").display());

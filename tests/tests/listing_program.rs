@@ -20,7 +20,7 @@ use oracle::samples;
 /// a pause between them.
 fn printed(book: &[u8], piece: usize, pause: Duration) -> String {
     let words = env::var("CAFRUZEK_LISTING");
-    let mut child = command(words.as_deref().unwrap_or("../target/bin/listing"))
+    let mut child = command(words.as_deref().unwrap_or("../crates/listing/out/listing"))
         .stdin(Stdio::piped())
         .stdout(Stdio::piped())
         .spawn()
