@@ -61,6 +61,7 @@ pub fn record_at(bytes: &[u8]) -> Extent
 }
 
 // The graph of a record that was checked.
+#[inline(never)]
 fn graph_of(bytes: &[u8]) -> Graph
     requires { (1 ≤ order_in (bit_of bytes.now)) × (order_in (bit_of bytes.now) ≤ 32) }
     ensures { result ≡ graph_in (bit_of bytes.now) }
