@@ -12,7 +12,7 @@ use std::io;
 use std::io::Print;
 
 // How many graphs are judged "none", and how many of these are connected.
-#[derive(Drop)]
+#[derive(Clone, Copy)]
 struct Tally {
     smallest: u32,
     connected: u32,

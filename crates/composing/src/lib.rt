@@ -12,7 +12,7 @@ use composed::{composed_of, inverse_of};
 use pairs::vertices::order_fits;
 
 // The vertex at place i stands at index i - 1; zeros follow after the last place. A refusal of 0 says that there is none.
-#[derive(Drop)]
+#[derive(Clone, Copy)]
 pub struct Arrangement {
     pub refusal: u32,
     pub place: usize,

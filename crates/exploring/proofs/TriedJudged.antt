@@ -114,10 +114,10 @@ module _ {mode : ℕ} {g : Graph} {budget : ℕ} {blocks path₀ path untried st
           let at_depth : suc depth - 1 ≡ depth = omega arith in
           let held : get_or stops depth 0 ≡ stops_at g.edges g.unknowns (used_mask here) (at here 1) (suc depth) = rw (first, (same_first y) l) (rw at_depth at ((y.choice.state.stopping rows_mode).upto (suc depth) (omega arith) (omega arith))) in
           let by = by_stop g y.choice.state.formed here (suc t) (omega (arith, long y.choice)) y.choice.state.follows (begins l) more_begins (sym (judged_by_rows_lem rows_mode here) ∙ y.choice.state.opened depth l (omega arith)) (omega arith) (omega (arith, place_fits_lem y.choice)) low there (λ c. longer_places (omega (arith, long y.choice))) in
-          by_rows_lem (rw (long y.choice, place, sym held, first, sym y.choice.state.in_use) at by)
+          by_rows (rw (long y.choice, place, sym held, first, sym y.choice.state.in_use) at by)
         where
-          by_rows_lem : {st on : ℕ} → ByStop g longer (suc depth) st on (walk_code (turn_at row_before g.edges g.unknowns longer there) (from_row 2 (n - 2))) → ByStop g longer (suc depth) st on rows
-          by_rows_lem b =
+          by_rows : {st on : ℕ} → ByStop g longer (suc depth) st on (walk_code (turn_at row_before g.edges g.unknowns longer there) (from_row 2 (n - 2))) → ByStop g longer (suc depth) st on rows
+          by_rows b =
               record {
                 stop_wins = b.stop_wins;
                 stop_loses = b.stop_loses;

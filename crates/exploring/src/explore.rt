@@ -17,7 +17,7 @@ use turns::walked::row_of;
 use words::{lowest, power, without};
 
 // How a search ended: kind 0 with nothing found, 1 with the path's first places as the first won beginning, 2 cut.
-#[derive(Drop)]
+#[derive(Clone, Copy)]
 pub struct Explored {
     pub kind: u32,
     pub steps: u32,

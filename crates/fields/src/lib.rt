@@ -11,7 +11,7 @@ ghost use Rattle.fields.specs.Field.{field_answer};
 use bits::number_at;
 
 // A field that was read, or why not.
-#[derive(Drop)]
+#[derive(Clone, Copy)]
 pub struct Value {
     pub refusal: u32,
     pub place: usize,

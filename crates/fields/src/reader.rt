@@ -5,21 +5,21 @@ ghost use Rattle.fields.specs.Reader.{taken_at, opened, field_ahead, moved_to, t
 use crate::{Value, field};
 
 // The caller's bytes, and the bit place of the next field.
-#[derive(Drop)]
+#[derive(Clone, Copy)]
 pub struct Reader<'a> {
     pub bytes: &'a [u8],
     pub place: usize,
 }
 
 // A field that was read, or why not, and the bit place after it.
-#[derive(Drop)]
+#[derive(Clone, Copy)]
 pub struct Taken {
     pub found: Value,
     pub next: usize,
 }
 
 // Two fields, one after the other, and the bit place after them.
-#[derive(Drop)]
+#[derive(Clone, Copy)]
 pub struct Two {
     pub first: Value,
     pub second: Value,

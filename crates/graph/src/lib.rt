@@ -26,7 +26,7 @@ pub struct Graph {
 // In each answer a refusal of 0 says that there is none.
 
 // An entry: 0 non-edge, 1 edge, 2 unknown.
-#[derive(Drop)]
+#[derive(Clone, Copy)]
 pub struct Reading {
     pub refusal: u32,
     pub place: usize,
@@ -34,7 +34,7 @@ pub struct Reading {
 }
 
 // A graph made from another one.
-#[derive(Drop)]
+#[derive(Clone, Copy)]
 pub struct Change {
     pub refusal: u32,
     pub place: usize,
@@ -42,7 +42,7 @@ pub struct Change {
 }
 
 // How many pairs are edges, non-edges and unknown.
-#[derive(Drop)]
+#[derive(Clone, Copy)]
 pub struct Totals {
     pub refusal: u32,
     pub place: usize,
@@ -52,7 +52,7 @@ pub struct Totals {
 }
 
 // How many edges a vertex has.
-#[derive(Drop)]
+#[derive(Clone, Copy)]
 pub struct Degree {
     pub refusal: u32,
     pub place: usize,

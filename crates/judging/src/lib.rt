@@ -4,7 +4,7 @@
 #![tactic(auto)]
 
 // How a judgement ended. Steps are the beginnings tried.
-#[derive(Drop)]
+#[derive(Clone, Copy)]
 pub enum Verdict {
     // Some permitted renumbering makes every full drawing smaller: the winning pair of the first certificate.
     Smaller { row: u32, column: u32, steps: u32 },
@@ -17,7 +17,7 @@ pub enum Verdict {
 }
 
 // A verdict, with the first certificate (zeros except for Smaller) and how many literals of its clause were written.
-#[derive(Drop)]
+#[derive(Clone, Copy)]
 pub struct Judged {
     pub verdict: Verdict,
     pub arrangement: [u8; 32],

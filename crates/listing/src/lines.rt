@@ -8,7 +8,7 @@ use judging::{Judged, Verdict};
 use record::Record;
 
 // What putting one line came to: the bytes of the line, the bytes of the record, and its refusal, if any.
-#[derive(Drop)]
+#[derive(Clone, Copy)]
 struct Turn {
     written: usize,
     taken: usize,
@@ -16,7 +16,7 @@ struct Turn {
 }
 
 // What putting a part of the listing came to: the bytes of the part, and the place and number of the next record.
-#[derive(Drop)]
+#[derive(Clone, Copy)]
 pub struct Progress {
     pub used: usize,
     pub at: usize,

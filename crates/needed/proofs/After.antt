@@ -18,7 +18,7 @@ use Rattle.walk.proofs.Put.{one_or_two}
 use Rattle.needed.specs.Settled.{Turned, WonWalk, driven_to, settled, up_to, stays, staying, wins_by}
 use Rattle.needed.proofs.Enough.{won_test}
 use Rattle.needed.proofs.Settled.{driven_late, driven_early, settled_known, one_way, not_itself, won_settled}
-use Rattle.needed.proofs.Staying.{at_w, mw, mi, not_after, source_apart, met_by_lem, up_to_lem, Stays, edge_stays, gap_stays, stays_tells, stays_alike, upto_not_after}
+use Rattle.needed.proofs.Staying.{at_w, mw, mi, not_after, source_apart, met_by, up_to_lem, Stays, edge_stays, gap_stays, stays_tells, stays_alike, upto_not_after}
 use Rattle.needed.proofs.Winning.{settled_where, staying_met, image_met, pair_left_out, image_left_out, pair_first, image_after, moved_w}
 
 -- pairs at which two drawings are the same decide nothing
@@ -74,7 +74,7 @@ module _ {P : Type 0} {same before : P → P → Bool} {img src : P → P} {ks :
         at (inr n) =
             let s = alike n in
             staying_met won_w a b (img k) (t.image_in k m) (image_met won_w k m n late) s.1 ∙ (at_w won_w).agrees k m e
-            ∙ sym (staying_met won_w a b k m ((met_by_lem won_w k m).1 (n, inl late)) s.0)
+            ∙ sym (staying_met won_w a b k m ((met_by won_w k m).1 (n, inl late)) s.0)
 
     -- ---- how the entries count after w
 
@@ -177,7 +177,7 @@ module _ {P : Type 0} {same before : P → P → Bool} {img src : P → P} {ks :
     not_w k e q = true≢false (sym e ∙ ap (λ (j : P). before j w) q ∙ not_itself t w (mw won_w))
 
     met_w : Memᴰ w (met same img ks v)
-    met_w = (met_by_lem won_w w (mw won_w)).1 (moved_w won_w, inl (not_itself t w (mw won_w)))
+    met_w = (met_by won_w w (mw won_w)).1 (moved_w won_w, inl (not_itself t w (mw won_w)))
 
     source_w : src w ≢ w
     source_w = (source_apart t w (mw won_w)).0 (moved_w won_w)

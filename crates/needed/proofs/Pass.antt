@@ -32,17 +32,17 @@ module _ {P : Type 0} {same before : P → P → Bool} {img src : P → P} {ks :
   abbrev ps : SplitAt (only same (met same img ks v) v) numbering trial.lower trial.tried trial.higher
   ps = parts trial
 
-  abbrev pair_goes_lem : Bool
-  pair_goes_lem = pg won_w image_last
+  abbrev pair_drops : Bool
+  pair_drops = pg won_w image_last
 
-  abbrev image_goes_lem : Bool
-  image_goes_lem = ig won_w image_last
+  abbrev image_drops : Bool
+  image_drops = ig won_w image_last
 
   -- ---- one of the two: w, or its image where the flag holds
 
-  abbrev of_two_lem : Bool → P
-  of_two_lem true = img w
-  of_two_lem false = w
+  abbrev of_two : Bool → P
+  of_two true = img w
+  of_two false = w
 
   -- whether it may go, and whether it does
   abbrev may : Bool → Bool
@@ -50,38 +50,38 @@ module _ {P : Type 0} {same before : P → P → Bool} {img src : P → P} {ks :
   may false = pair_may same before img src ks v w
 
   abbrev drops : Bool → Bool
-  drops true = image_goes_lem
-  drops false = pair_goes_lem
+  drops true = image_drops
+  drops false = pair_drops
 
   -- left out, its entry does not stay
-  left_out : (i : Bool) → keeps won_w (not i) i (of_two_lem i) ≡ false
+  left_out : (i : Bool) → keeps won_w (not i) i (of_two i) ≡ false
   left_out true = image_left_out won_w false
   left_out false = pair_left_out won_w false
 
-  gone : (i : Bool) → drops i ≡ true → kept_at won_w image_last (of_two_lem i) ≡ false
-  gone true g = ap (λ (b : Bool). keeps won_w pair_goes_lem b (img w)) g ∙ image_left_out won_w pair_goes_lem
-  gone false g = ap (λ (a : Bool). keeps won_w a image_goes_lem w) g ∙ pair_left_out won_w image_goes_lem
+  gone : (i : Bool) → drops i ≡ true → kept_at won_w image_last (of_two i) ≡ false
+  gone true g = ap (λ (b : Bool). keeps won_w pair_drops b (img w)) g ∙ image_left_out won_w pair_drops
+  gone false g = ap (λ (a : Bool). keeps won_w a image_drops w) g ∙ pair_left_out won_w image_drops
 
   -- any other entry stays as it does with none left out
   source_other : (k : P) → Memᴰ k ks → k ≢ img w → src k ≢ w
   source_other k m n f = n (sym (won_w.turned.image_source k m) ∙ ap img f)
 
-  without_alike : (i : Bool) (k : P) → Memᴰ k ks → k ≢ of_two_lem i → keeps won_w (not i) i k ≡ keeps won_w false false k
+  without_alike : (i : Bool) (k : P) → Memᴰ k ks → k ≢ of_two i → keeps won_w (not i) i k ≡ keeps won_w false false k
   without_alike true k m n = stays_alike won_w false true false false k m (inr refl) (inl (source_other k m n))
   without_alike false k m n = stays_alike won_w true false false false k m (inl n) (inr refl)
 
-  kept_alike : (i : Bool) (k : P) → Memᴰ k ks → k ≢ of_two_lem i → (k ≢ of_two_lem (not i)) ⊎ (drops (not i) ≡ false) → kept_at won_w image_last k ≡ keeps won_w false false k
-  kept_alike true k m n o = stays_alike won_w pair_goes_lem image_goes_lem false false k m o (inl (source_other k m n))
-  kept_alike false k m n (inl o) = stays_alike won_w pair_goes_lem image_goes_lem false false k m (inl n) (inl (source_other k m o))
-  kept_alike false k m n (inr g) = stays_alike won_w pair_goes_lem image_goes_lem false false k m (inl n) (inr g)
+  kept_alike : (i : Bool) (k : P) → Memᴰ k ks → k ≢ of_two i → (k ≢ of_two (not i)) ⊎ (drops (not i) ≡ false) → kept_at won_w image_last k ≡ keeps won_w false false k
+  kept_alike true k m n o = stays_alike won_w pair_drops image_drops false false k m o (inl (source_other k m n))
+  kept_alike false k m n (inl o) = stays_alike won_w pair_drops image_drops false false k m (inl n) (inl (source_other k m o))
+  kept_alike false k m n (inr g) = stays_alike won_w pair_drops image_drops false false k m (inl n) (inr g)
 
   -- one that goes is needed to come to w and to win there; where one that is may not go, the walk is not won without it
-  goes_needed : (i : Bool) → drops i ≡ true → keeps won_w false false (of_two_lem i) ≡ true
+  goes_needed : (i : Bool) → drops i ≡ true → keeps won_w false false (of_two i) ≡ true
   unfolding image_goes pair_goes image_may pair_may
   goes_needed true g = both_first (keeps won_w false false (img w)) _ (both_first (may true) _ g)
   goes_needed false g = both_first (keeps won_w false false w) _ (both_first (may false) _ g)
 
-  not_won : (i : Bool) → keeps won_w false false (of_two_lem i) ≡ true → may i ≡ false → wins_by same before img src ks v w (not i) i ≡ false
+  not_won : (i : Bool) → keeps won_w false false (of_two i) ≡ true → may i ≡ false → wins_by same before img src ks v w (not i) i ≡ false
   unfolding image_may pair_may
   not_won true s m = fails (wins_by same before img src ks v w false true) (λ h. true≢false (sym (both_hold (keeps won_w false false (img w)) _ s h) ∙ m))
   not_won false s m = fails (wins_by same before img src ks v w true false) (λ h. true≢false (sym (both_hold (keeps won_w false false w) _ s h) ∙ m))
@@ -93,40 +93,40 @@ module _ {P : Type 0} {same before : P → P → Bool} {img src : P → P} {ks :
   both_stay false e f = (neither_may _ (may true) (may false) f e).1
 
   -- where the other goes, this one is tried first and may not go, or the other is tried first and so has gone
-  other_drops : (i : Bool) → c ≡ of_two_lem i → drops (not i) ≡ true
-      → ((may i ≡ false) × (¬ Memᴰ (of_two_lem (not i)) (parts trial).last)) ⊎ (¬ Memᴰ (of_two_lem (not i)) (parts trial).first)
+  other_drops : (i : Bool) → c ≡ of_two i → drops (not i) ≡ true
+      → ((may i ≡ false) × (¬ Memᴰ (of_two (not i)) (parts trial).last)) ⊎ (¬ Memᴰ (of_two (not i)) (parts trial).first)
   unfolding image_goes pair_goes both either
   other_drops i q g = at i image_last refl g (ps.split ∙ ap (λ (j : P). ps.first ++ j ∷ ps.last) q)
     where
-      at : (i last : Bool) → image_last ≡ last → drops (not i) ≡ true → numbering ≡ ps.first ++ of_two_lem i ∷ ps.last
-          → ((may i ≡ false) × (¬ Memᴰ (of_two_lem (not i)) ps.last)) ⊎ (¬ Memᴰ (of_two_lem (not i)) ps.first)
+      at : (i last : Bool) → image_last ≡ last → drops (not i) ≡ true → numbering ≡ ps.first ++ of_two i ∷ ps.last
+          → ((may i ≡ false) × (¬ Memᴰ (of_two (not i)) ps.last)) ⊎ (¬ Memᴰ (of_two (not i)) ps.first)
       at true true e g s = inl (fails (may true) (λ h. true≢false (sym (rw (e, h) at (both_second (may false) _ g)))), trial.numbered.image_higher e ps.first ps.last s)
       at true false e g s = inr (not_earlier numbering (img w) w (trial.numbered.pair_higher e) ps.first ps.last s)
       at false true e g s = inr (not_earlier numbering w (img w) (trial.numbered.image_higher e) ps.first ps.last s)
       at false false e g s = inl (fails (may false) (λ h. true≢false (sym (rw (e, h) at (both_second (may true) _ g)))), trial.numbered.pair_higher e ps.first ps.last s)
 
   -- without both the walk is lost at w
-  both_gone : (i : Bool) → keeps won_w false false (of_two_lem i) ≡ true → keeps won_w false false (of_two_lem (not i)) ≡ true
-      → Each (λ z. Memᴰ z (literals same img ks v numbering) × (pair_in z ≢ of_two_lem i) × (pair_in z ≢ of_two_lem (not i))) (left trial) → enough same img ks v (left trial) ≡ false
+  both_gone : (i : Bool) → keeps won_w false false (of_two i) ≡ true → keeps won_w false false (of_two (not i)) ≡ true
+      → Each (λ z. Memᴰ z (literals same img ks v numbering) × (pair_in z ≢ of_two i) × (pair_in z ≢ of_two (not i))) (left trial) → enough same img ks v (left trial) ≡ false
   both_gone true here there part = lost_without_two won_w numbering trial.numbered.all there here (left trial) (λ z m. let h = part z m in (h.0, h.2, h.1))
   both_gone false here there part = lost_without_two won_w numbering trial.numbered.all here there (left trial) part
 
   -- the one that is kept cannot go
-  one_stays : (i : Bool) → c ≡ of_two_lem i → kept_test won_w image_last trial.tried ≡ true → enough same img ks v (left trial) ≡ false
+  one_stays : (i : Bool) → c ≡ of_two i → kept_test won_w image_last trial.tried ≡ true → enough same img ks v (left trial) ≡ false
   one_stays i q e = at (holds_or_fails (drops (not i)))
     where
-      kept : kept_at won_w image_last (of_two_lem i) ≡ true
+      kept : kept_at won_w image_last (of_two i) ≡ true
       kept = rw q at e
 
-      is_needed : keeps won_w false false (of_two_lem i) ≡ true
-      is_needed = rw q at (stays_all won_w c (tried_in trial) pair_goes_lem image_goes_lem e)
+      is_needed : keeps won_w false false (of_two i) ≡ true
+      is_needed = rw q at (stays_all won_w c (tried_in trial) pair_drops image_drops e)
 
       -- where the other has not gone yet, it is the only one that is missing when it is tried
-      alone : may i ≡ false → ((k : P) → Memᴰ k ps.last → (k ≢ of_two_lem (not i)) ⊎ (drops (not i) ≡ false)) → enough same img ks v (left trial) ≡ false
+      alone : may i ≡ false → ((k : P) → Memᴰ k ps.last → (k ≢ of_two (not i)) ⊎ (drops (not i) ≡ false)) → enough same img ks v (left trial) ≡ false
       alone m other =
           left_by trial (not i) i (rw q (left_out i)) (λ k mk n. without_alike i k mk (λ p. n (p ∙ sym q)))
           (λ k mk l s.
-          let n : k ≢ of_two_lem i = λ p. true≢false (sym s ∙ ap (keeps won_w (not i) i) p ∙ left_out i) in
+          let n : k ≢ of_two i = λ p. true≢false (sym s ∙ ap (keeps won_w (not i) i) p ∙ left_out i) in
           kept_alike i k mk n (other k l) ∙ sym (without_alike i k mk n) ∙ s)
           ∙ not_won i is_needed m
 
@@ -134,11 +134,11 @@ module _ {P : Type 0} {same before : P → P → Bool} {img src : P → P} {ks :
       at (inr g) = alone (both_stay i (fails (drops i) (λ h. true≢false (sym kept ∙ gone i h))) g) (λ k l. inr g)
       at (inl g) = go (other_drops i q g)
         where
-          go : ((may i ≡ false) × (¬ Memᴰ (of_two_lem (not i)) ps.last)) ⊎ (¬ Memᴰ (of_two_lem (not i)) ps.first) → enough same img ks v (left trial) ≡ false
+          go : ((may i ≡ false) × (¬ Memᴰ (of_two (not i)) ps.last)) ⊎ (¬ Memᴰ (of_two (not i)) ps.first) → enough same img ks v (left trial) ≡ false
           go (inl h) = alone h.0 (λ k l. inl (λ p. h.1 (rw p at l)))
           go (inr n) = both_gone i is_needed (goes_needed (not i) g) (λ z m. let h = left_others trial z m in (h.0, λ p. h.1 (p ∙ sym q), λ p. missing z p (left_is trial z m)))
             where
-              missing : (z : Literal P) → pair_in z ≡ of_two_lem (not i) → Memᴰ (pair_in z) ps.first ⊎ (kept_test won_w image_last z ≡ true) → ⊥
+              missing : (z : Literal P) → pair_in z ≡ of_two (not i) → Memᴰ (pair_in z) ps.first ⊎ (kept_test won_w image_last z ≡ true) → ⊥
               missing z p (inl l) = n (rw p at l)
               missing z p (inr s) = true≢false (sym s ∙ ap (kept_at won_w image_last) p ∙ gone (not i) g)
 
@@ -153,7 +153,7 @@ module _ {P : Type 0} {same before : P → P → Bool} {img src : P → P} {ks :
           side : (c ≡ w) ⊎ (c ≢ w) → (c ≡ img w) ⊎ (c ≢ img w) → enough same img ks v (left trial) ≡ false
           side (inl q) r = one_stays false q e
           side (inr n) (inl q) = one_stays true q e
-          side (inr n) (inr o) = lost_without won_w numbering trial.numbered.all c (tried_in trial) n o ((stays_tells won_w pair_goes_lem image_goes_lem c).0 e) (left trial) (left_others trial)
+          side (inr n) (inr o) = lost_without won_w numbering trial.numbered.all c (tried_in trial) n o ((stays_tells won_w pair_drops image_drops c).0 e) (left trial) (left_others trial)
 
 module _ {P : Type 0} {same before : P → P → Bool} {img src : P → P} {ks : List P} {v : P → ℕ} {w : P} (won_w : WonWalk same before img src ks v w)
     {image_last : Bool} {numbering : List P} (nums : NumberedBy img ks w image_last numbering) where

@@ -65,8 +65,8 @@ module _ {P : Type 0} {same before : P → P → Bool} {img src : P → P} {ks :
       from m b (inr n) = Memᴰ.append_left (w ∷ []) ((t.order xs w ys e i m).0 (one_way t i w m mw n ∙ ap not b))
 
   -- the pairs met are those up to w that aren't their own images, and the images of these
-  pub met_by_lem : (k : P) → Memᴰ k ks → Memᴰ k (met same img ks v) ↔ ((img k ≢ k) × ((before w k ≡ false) ⊎ (before w (src k) ≡ false)))
-  met_by_lem k m = (λ i. to (are.0 (rw u.pairs at i)), λ h. rw u.pairs (are.1 (from h.0 h.1)))
+  pub met_by : (k : P) → Memᴰ k ks → Memᴰ k (met same img ks v) ↔ ((img k ≢ k) × ((before w k ≡ false) ⊎ (before w (src k) ≡ false)))
+  met_by k m = (λ i. to (are.0 (rw u.pairs at i)), λ h. rw u.pairs (are.1 (from h.0 h.1)))
     where
       u : UpTo t.tells img ks w (met same img ks v)
       u = won_meets t.tells img ks v w won_w.wins
@@ -151,7 +151,7 @@ module _ {P : Type 0} {same before : P → P → Bool} {img src : P → P} {ks :
     stays_moved (gap_stays x y z) e = true≢false (sym y ∙ ap (λ (j : P). before j k) e ∙ not_itself t k m)
 
     pub stays_met : {a b : Bool} → Stays a b k → Memᴰ k (met same img ks v)
-    stays_met s = (met_by_lem k m).1 ((source_apart t k m).1 (stays_moved s), reaches s)
+    stays_met s = (met_by k m).1 ((source_apart t k m).1 (stays_moved s), reaches s)
       where
         reaches : {a b : Bool} → Stays a b k → (before w k ≡ false) ⊎ (before w (src k) ≡ false)
         reaches {a} (edge_stays x y z) = inl (upto_not_after a k m z)
@@ -179,7 +179,7 @@ module _ {P : Type 0} {same before : P → P → Bool} {img src : P → P} {ks :
         there = t.source_in k m
 
         is : (img k ≢ k) × ((before w k ≡ false) ⊎ (before w (src k) ≡ false))
-        is = (met_by_lem k m).0 i
+        is = (met_by k m).0 i
 
         -- of 0 and 1 it is the one that it would not be driven to
         left : (x d : ℕ) → x ≤ 1 → d ≤ 1 → x ≢ d → x ≡ 1 - d

@@ -14,7 +14,7 @@ use Rattle.walk.proofs.Put.{one_or_two}
 use Rattle.needed.specs.Settled.{Turned, WonWalk, driven_to, settled, stays, staying, wins_by}
 use Rattle.needed.proofs.Enough.{won_test}
 use Rattle.needed.proofs.Settled.{settled_known, settled_unknown, not_itself, at_wins}
-use Rattle.needed.proofs.Staying.{at_w, mw, mi, not_after, source_apart, met_by_lem, Stays, edge_stays, gap_stays, stays_tells, other_stays, upto_w}
+use Rattle.needed.proofs.Staying.{at_w, mw, mi, not_after, source_apart, met_by, Stays, edge_stays, gap_stays, stays_tells, other_stays, upto_w}
 
 -- ---- entries
 
@@ -101,7 +101,7 @@ module _ {P : Type 0} {same before : P → P → Bool} {img src : P → P} {ks :
   pub image_met : (k : P) → Memᴰ k ks → img k ≢ k → before w k ≡ false → Memᴰ (img k) (met same img ks v)
   image_met k m n late =
       let there = t.image_in k m in
-      (met_by_lem won_w (img k) there).1 ((source_apart t (img k) there).1 (λ e. n (sym e ∙ t.source_image k m)), inr (rw (t.source_image k m) late))
+      (met_by won_w (img k) there).1 ((source_apart t (img k) there).1 (λ e. n (sym e ∙ t.source_image k m)), inr (rw (t.source_image k m) late))
 
   -- an entry that is met, and stays where it would with nothing left out, has its settled value
   pub staying_met : (a b : Bool) (k : P) → Memᴰ k ks → Memᴰ k (met same img ks v) → stays before src v w a b k ≡ stays before src v w false false k
@@ -125,7 +125,7 @@ module _ {P : Type 0} {same before : P → P → Bool} {img src : P → P} {ks :
       as_v k m i = staying_met false false k m i refl
 
       met_w : Memᴰ w (met same img ks v)
-      met_w = (met_by_lem won_w w (mw won_w)).1 (moved_w, inl (not_itself t w (mw won_w)))
+      met_w = (met_by won_w w (mw won_w)).1 (moved_w, inl (not_itself t w (mw won_w)))
 
       met_i : Memᴰ (img w) (met same img ks v)
       met_i = image_met w (mw won_w) moved_w (not_itself t w (mw won_w))
@@ -139,4 +139,4 @@ module _ {P : Type 0} {same before : P → P → Bool} {img src : P → P} {ks :
           at : (img k ≡ k) ⊎ (img k ≢ k) → settled before src y (img k) ≡ settled before src y k
           at (inl e) = ap (settled before src y) e
           at (inr n) =
-              as_v (img k) (t.image_in k m) (image_met k m n late) ∙ (at_w won_w).agrees k m b ∙ sym (as_v k m ((met_by_lem won_w k m).1 (n, inl late)))
+              as_v (img k) (t.image_in k m) (image_met k m n late) ∙ (at_w won_w).agrees k m b ∙ sym (as_v k m ((met_by won_w k m).1 (n, inl late)))

@@ -20,7 +20,7 @@ use Rattle.needed.specs.Settled.{Turned, WonWalk, driven_to, settled, stays, sta
 use Rattle.needed.proofs.Kept.{those_are}
 use Rattle.needed.proofs.Enough.{literal_for, literals_exactly, enough_tells, enough_more}
 use Rattle.needed.proofs.Settled.{driven_late, driven_early, settled_known, settled_unknown, one_way, not_itself, walk_alike, loses_at}
-use Rattle.needed.proofs.Staying.{at_w, mw, mi, before_all, not_after, source_apart, met_by_lem, Stays, edge_stays, gap_stays, stays_moved, upto_not_after}
+use Rattle.needed.proofs.Staying.{at_w, mw, mi, before_all, not_after, source_apart, met_by, Stays, edge_stays, gap_stays, stays_moved, upto_not_after}
 use Rattle.needed.proofs.Winning.{settled_where, pick_alike, pair_first, image_after, image_met}
 
 module _ {P : Type 0} {same before : P → P → Bool} {img src : P → P} {ks : List P} {v : P → ℕ} {w : P} (won_w : WonWalk same before img src ks v w) where
@@ -125,7 +125,7 @@ module _ {P : Type 0} {same before : P → P → Bool} {img src : P → P} {ks :
               at (inl e) = ap (settled before src y) e
               at (inr n) =
                   let c = clear k i b n in
-                  others_here (img k) (t.image_in k i) (image_met won_w k i n late) c.1 ∙ (at_w won_w).agrees k i (earlier k i b) ∙ sym (others_here k i ((met_by_lem won_w k i).1 (n, inl late)) c.0)
+                  others_here (img k) (t.image_in k i) (image_met won_w k i n late) c.1 ∙ (at_w won_w).agrees k i (earlier k i b) ∙ sym (others_here k i ((met_by won_w k i).1 (n, inl late)) c.0)
 
     -- ---- where the walk is lost
 
@@ -224,6 +224,6 @@ module _ {P : Type 0} {same before : P → P → Bool} {img src : P → P} {ks :
 
             zero : settled before src (only same (map pair_in (others it)) v) (src c) ≡ 0
             zero =
-                others_here it (src c) ms ((met_by_lem won_w (src c) ms).1 (λ p. moved (sym p ∙ t.image_source c m), inl late)) (not_it (src c) moved)
+                others_here it (src c) ms ((met_by won_w (src c) ms).1 (λ p. moved (sym p ∙ t.image_source c m), inl late)) (not_it (src c) moved)
                 ∙ sym ((at_w won_w).agrees (src c) ms (one_way t (src c) w ms (mw won_w) (λ p. ni (sym (t.image_source c m) ∙ ap img p)) ∙ ap not late))
                 ∙ ap (settled before src v) (t.image_source c m) ∙ settled_known before src v c (omega arith) ∙ x

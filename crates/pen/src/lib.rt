@@ -9,7 +9,7 @@ ghost use Rattle.pen.specs.Pushed.{stored, IsPushed};
 use words::limit_of;
 
 // How many bytes are stored, how many bits wait, and these bits as a number.
-#[derive(Drop)]
+#[derive(Clone, Copy)]
 pub struct Pen {
     pub stored: usize,
     pub have: u32,

@@ -59,7 +59,7 @@ module _ (s : List ℕ) (n : ℕ) (is_n : n ≡ order_in (bit_of s)) (given : 1 
     runs_past h =
         rw (← is_n, le-leb 1 (length s) given, order_tested n order_low order_high, ← is_taken, lt-leb whole.bytes (length s) h)
 
-    module _ (room : whole.bytes ≤ length s) (refused : ℕ) (is_refused_lem : refused ≡ refused_in (bit_of s) n) where
+    module _ (room : whole.bytes ≤ length s) (refused : ℕ) (refused_told : refused ≡ refused_in (bit_of s) n) where
       pub entry_refused : (refused ≡ 0 → ⊥) → extent 3 refused 0 ≡ record_at s
       unfolding record_at record_in unless
       entry_refused h =
@@ -69,7 +69,7 @@ module _ (s : List ℕ) (n : ℕ) (is_n : n ≡ order_in (bit_of s)) (given : 1 
             order_tested n order_low order_high,
             ← is_taken,
             le-leb whole.bytes (length s) room,
-            ← is_refused_lem,
+            ← refused_told,
             ne_eqb refused 0 h,
           )
 
@@ -83,7 +83,7 @@ module _ (s : List ℕ) (n : ℕ) (is_n : n ≡ order_in (bit_of s)) (given : 1 
               order_tested n order_low order_high,
               ← is_taken,
               le-leb whole.bytes (length s) room,
-              ← is_refused_lem,
+              ← refused_told,
               eq-eqb refused 0 none,
               ← is_pad,
               ne_eqb pad 0 h,
@@ -98,7 +98,7 @@ module _ (s : List ℕ) (n : ℕ) (is_n : n ≡ order_in (bit_of s)) (given : 1 
               le-leb 1 (length s) given,
               order_tested n order_low order_high,
               le-leb (byte_count n) (length s) (rw is_taken at room),
-              ← is_refused_lem,
+              ← refused_told,
               eq-eqb refused 0 none,
               ← is_pad,
               eq-eqb pad 0 h,

@@ -10,7 +10,7 @@ use numbers::gathered::gathered;
 use record::layout::line_place;
 
 // A word of unknowns and one of edges.
-#[derive(Drop)]
+#[derive(Clone, Copy)]
 pub struct Line {
     pub unknowns: u32,
     pub edges: u32,

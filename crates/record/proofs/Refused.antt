@@ -64,7 +64,7 @@ first_refused f n k e =
     record {
       low = i.low;
       high = i.high;
-      is_refused_lem = eqb-true (numbered_in f n (suc k)) 3 i.holds;
+      entry_refused = eqb-true (numbered_in f n (suc k)) 3 i.holds;
       none_before = λ j l h. eqb-false (numbered_in f n j) 3 (i.none_before j l h);
     }
 

@@ -49,7 +49,7 @@ graph_in f = drawn (order_in f) (starts_in f (order_in f)) (entry_in f (order_in
 pub record FirstRefused (f : ℕ → ℕ) (n m : ℕ) : Type 0 where
   pub low : 1 ≤ m
   pub high : m ≤ pair_count n
-  pub is_refused_lem : numbered_in f n m ≡ 3
+  pub entry_refused : numbered_in f n m ≡ 3
   pub none_before : (k : ℕ) → 1 ≤ k → k < m → numbered_in f n k ≡ 3 → ⊥
 
 -- the elements of a slice of bytes

@@ -12,7 +12,7 @@ use graph::Graph;
 use layout::byte_count;
 
 // How many bytes a record takes, or why there is none.
-#[derive(Drop)]
+#[derive(Clone, Copy)]
 pub struct Extent {
     pub refusal: u32,
     pub place: usize,
@@ -28,7 +28,7 @@ pub struct Record {
 }
 
 // How many bytes of a record were written, or why none.
-#[derive(Drop)]
+#[derive(Clone, Copy)]
 pub struct Written {
     pub refusal: u32,
     pub place: usize,

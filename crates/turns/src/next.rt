@@ -4,7 +4,7 @@ ghost use Rattle.pairs.specs.Pairs.{pair};
 ghost use Rattle.turns.specs.Next.{rows_after, columns_after, pairs_after, starting_at, PairOrNone};
 
 // A pair, or (0, 0) for none.
-#[derive(Drop)]
+#[derive(Clone, Copy)]
 pub struct Spot {
     pub row: u32,
     pub column: u32,

@@ -20,7 +20,7 @@ fn upper_of(a: u32, b: u32, s: u32, m: u32, c: u32) -> u32
 }
 
 // Two matrices of rows, turned together.
-#[derive(Drop)]
+#[derive(Clone, Copy)]
 pub struct Matrices {
     pub edges: [u32; 32],
     pub unknowns: [u32; 32],
