@@ -1,71 +1,57 @@
-// Arrangements composed and inverted. Vertices and places are numbered from 1.
+// Arrangements composed and inverted. Vertices and places are numbered from 1. An arrangement has the vertex at place i at
+// index i - 1, with zeros after the last place.
 
 #![tactic(auto)]
 
 pub mod composed;
 
-ghost use Rattle.std.specs.Prelude.{◌≡◌, replicate};
-ghost use Rattle.composing.specs.Answers.{arrangement, compose_answer, invert_answer};
+ghost use Rattle.std.specs.Prelude.{◌≡◌, true, false, MatchResult};
+ghost use Rattle.pairs.specs.Vertices.{order_fits};
+ghost use Rattle.arrangements.specs.Arrangement.{is_reordering};
+ghost use Rattle.composing.specs.Answers.{compose_answer, invert_answer};
 
 use arrangements::reordering::is_reordering;
 use composed::{composed_of, inverse_of};
 use pairs::vertices::order_fits;
+use refusal::Refusal;
 
-// The vertex at place i stands at index i - 1; zeros follow after the last place. A refusal of 0 says that there is none.
-#[derive(Clone, Copy)]
-pub struct Arrangement {
-    pub refusal: u32,
-    pub place: usize,
-    pub vertices: [u8; 32],
-}
-
-// The vertices that are answered.
-fn arranged(vertices: [u8; 32]) -> Arrangement
-    ensures { result ≡ arrangement 0 0 vertices }
+// Refuses an order that no graph has.
+fn check_order(order: u32) -> Result<(), Refusal>
+    ensures { MatchResult result (λ _. order_fits order ≡ true) (λ e. (order_fits order ≡ false) × (e ≡ Refusal.Order order)) }
 {
-    Arrangement {
-        refusal: 0,
-        place: 0,
-        vertices,
+    if order_fits(order) {
+        Ok(())
+    } else {
+        Err(Refusal::Order { order })
     }
 }
 
-// A refusal, with zeros beside it.
-fn unarranged(refusal: u32, place: u32) -> Arrangement
-    ensures { result ≡ arrangement refusal place (replicate 32 0) }
+// Refuses what is no reordering.
+fn check_reordering(order: u32, p: [u8; 32]) -> Result<(), Refusal>
+    ensures { MatchResult result (λ _. is_reordering order p ≡ true) (λ e. (is_reordering order p ≡ false) × (e ≡ Refusal.Arrangement)) }
 {
-    Arrangement {
-        refusal,
-        place: place as usize,
-        vertices: [0u8; 32],
+    if is_reordering(order, p) {
+        Ok(())
+    } else {
+        Err(Refusal::Arrangement)
     }
 }
 
 // p composed with q: it puts p(q(i)) at i.
-pub fn compose(order: u32, p: [u8; 32], q: [u8; 32]) -> Arrangement
+pub fn compose(order: u32, p: [u8; 32], q: [u8; 32]) -> Result<[u8; 32], Refusal>
     ensures { result ≡ compose_answer order p q }
 {
-    if order_fits(order) {
-        if is_reordering(order, p) {
-            if is_reordering(order, q) {
-                return arranged(composed_of(order, &p, &q));
-            }
-            return unarranged(11, 0);
-        }
-        return unarranged(11, 0);
-    }
-    unarranged(2, order)
+    check_order(order)?;
+    check_reordering(order, p)?;
+    check_reordering(order, q)?;
+    Ok(composed_of(order, &p, &q))
 }
 
 // The inverse of p: it puts at v the place at which p has v.
-pub fn invert(order: u32, p: [u8; 32]) -> Arrangement
+pub fn invert(order: u32, p: [u8; 32]) -> Result<[u8; 32], Refusal>
     ensures { result ≡ invert_answer order p }
 {
-    if order_fits(order) {
-        if is_reordering(order, p) {
-            return arranged(inverse_of(order, &p));
-        }
-        return unarranged(11, 0);
-    }
-    unarranged(2, order)
+    check_order(order)?;
+    check_reordering(order, p)?;
+    Ok(inverse_of(order, &p))
 }
