@@ -13,7 +13,6 @@ use Rattle.laws.specs.TestLaws.{both_first, first_fails, second_fails}
 use Rattle.laws.specs.UpTo.{all_up_to, sum_up_to}
 use Rattle.laws.specs.UpToLaws.{word_same}
 use Rattle.graph.specs.declared.Graph.{Graph}
-use Rattle.graph.specs.declared.Change.{Change}
 use Rattle.rows.specs.Rows.{with_mark, ones_at}
 use Rattle.words.specs.Placed.{placed}
 use Rattle.graph.specs.Graph.{with_entry, relabelled}
@@ -23,7 +22,7 @@ use Rattle.pairs.proofs.VertexLaws.{vertex_low, vertex_high, row_vertex, column_
 use Rattle.rows.specs.Fits.{starts_fit, row_fits}
 use Rattle.graph.specs.Counts.{pairs_with, edges_at}
 use Rattle.arrangements.specs.Arrangement.{at, is_reordering, is_permitted, stays_in_block, moved_bit, moved_row}
-use Rattle.graph.specs.Answers.{no_graph, reading, changed, totals, degree}
+use Rattle.graph.specs.Answers.{totals}
 use Rattle.graph.proofs.Formed.{formed}
 use Rattle.graph.proofs.CountLaws.{edges_half, unknowns_half, all_counted, non_edges_left, edges_at_ones}
 use Rattle.words.proofs.Placed.{placed_same}
@@ -48,9 +47,9 @@ module _ (g : Graph) (b : Bool) (o : b ≡ order_fits g.order) where
 
 -- ---- what the tests tell
 
-module _ (g : Graph) (b : Bool) (e : b ≡ well_formed g) (h : b ≡ true) where
+module _ (g : Graph) (e : well_formed g ≡ true) where
   formed_by_test : WellFormed g
-  formed_by_test = formed g (sym e ∙ h)
+  formed_by_test = formed g e
 
   pub order_low : 1 ≤ g.order
   order_low = formed_by_test.order_low
@@ -62,9 +61,9 @@ module _ (g : Graph) (b : Bool) (e : b ≡ well_formed g) (h : b ≡ true) where
     pub vertex_most : v ≤ 32
     vertex_most = omega (arith, order_high, vertex_high g.order v c p q)
 
-    pub degree_is : (r : ℕ) → r ≡ ones_at g.edges v → degree 0 r ≡ degree 0 (edges_at g v)
+    pub degree_is : (r : ℕ) → r ≡ ones_at g.edges v → r ≡ edges_at g v
     unfolding ones_at
-    degree_is r k = ap (degree 0) (k ∙ sym (edges_at_ones g formed_by_test v (vertex_low g.order v c p q) (vertex_high g.order v c p q)))
+    degree_is r k = k ∙ sym (edges_at_ones g formed_by_test v (vertex_low g.order v c p q) (vertex_high g.order v c p q))
 
   module _ (i j : ℕ) (c : Bool) (p : c ≡ is_pair g.order i j) (q : c ≡ true) where
     pub row_most : i ≤ 32
@@ -90,7 +89,7 @@ module _ (g : Graph) (b : Bool) (e : b ≡ well_formed g) (h : b ≡ true) where
     pub unknowns_within : y / 2 ≤ g.order * (g.order - 1) / 2 - x / 2
     unknowns_within = omega (arith, edges_are, unknowns_are, all_counted g formed_by_test)
 
-    pub totals_are : totals 0 (x / 2) (g.order * (g.order - 1) / 2 - x / 2 - y / 2) (y / 2) ≡ totals 0 (pairs_with g 1) (pairs_with g 0) (pairs_with g 2)
+    pub totals_are : totals (x / 2) (g.order * (g.order - 1) / 2 - x / 2 - y / 2) (y / 2) ≡ totals (pairs_with g 1) (pairs_with g 0) (pairs_with g 2)
     totals_are = rw (edges_are, unknowns_are, ← non_edges_left g formed_by_test)
 
   pub pairs_fit : g.order * (g.order - 1) < 2 ^ 32
@@ -106,30 +105,23 @@ module _ (g : Graph) (b : Bool) (e : b ≡ well_formed g) (h : b ≡ true) where
   unfolding moved_row moved_bit
   moved_unknowns p i = word_same (moved_bit g.unknowns p i) (λ j. brought g p i j / 2) g.order (λ j l k. unknown_bit g (at p i) (at p j))
 
-  pub relabelled_is : (p edges unknowns : List ℕ) (r : Change) → edges ≡ placed (moved_row g.edges p g.order) g.order
+  pub relabelled_is : (p edges unknowns : List ℕ) (r : Graph) → edges ≡ placed (moved_row g.edges p g.order) g.order
       → unknowns ≡ placed (moved_row g.unknowns p g.order) g.order
-      → r ≡ changed 0 (record { order = g.order; edges = edges; unknowns = unknowns; starts = g.starts }) → r ≡ changed 0 (relabelled g p)
+      → r ≡ record { order = g.order; edges = edges; unknowns = unknowns; starts = g.starts } → r ≡ relabelled g p
   relabelled_is p edges unknowns r a k q =
       q
-      ∙ ap (changed 0)
-      (relabelled_built g p formed_by_test edges unknowns
+      ∙ (relabelled_built g p formed_by_test edges unknowns
       (a ∙ placed_same (moved_row g.edges p g.order) (brought_edges g p) g.order (λ i l m. moved_edges p i))
       (k ∙ placed_same (moved_row g.unknowns p g.order) (brought_unknowns g p) g.order (λ i l m. moved_unknowns p i)))
 
 -- ---- answers
 
-pub reading_is : (v w : ℕ) → v ≡ w → reading 0 v ≡ reading 0 w
-reading_is v w e = ap (reading 0) e
-
-pub set_is : (g : Graph) (i j value : ℕ) (edges unknowns : List ℕ) (r : Change) → edges ≡ with_mark g.edges i j (value % 2)
+pub set_is : (g : Graph) (i j value : ℕ) (edges unknowns : List ℕ) (r : Graph) → edges ≡ with_mark g.edges i j (value % 2)
     → unknowns ≡ with_mark g.unknowns i j (value / 2)
-    → r ≡ changed 0 (record { order = g.order; edges = edges; unknowns = unknowns; starts = g.starts }) → r ≡ changed 0 (with_entry g i j value)
+    → r ≡ record { order = g.order; edges = edges; unknowns = unknowns; starts = g.starts } → r ≡ with_entry g i j value
 unfolding with_entry
 set_is g i j value edges unknowns r a b q =
-    q ∙ ap₂ (λ (x y : List ℕ). changed 0 (record { order = g.order; edges = x; unknowns = y; starts = g.starts })) a b
-
-pub refused_graph : (k : ℕ) (x : Graph) (r : Change) → r ≡ changed k x → x ≡ no_graph → r ≡ changed k no_graph
-refused_graph k x r p q = p ∙ ap (changed k) q
+    q ∙ ap₂ {C = Graph} (λ (x y : List ℕ). record { order = g.order; edges = x; unknowns = y; starts = g.starts }) a b
 
 pub value_held : (value : ℕ) → value ≤ 2 → true ≡ leb value 2
 value_held value h = sym (le-leb value 2 h)

@@ -2,14 +2,17 @@
 
 #![tactic(auto)]
 
-ghost use Rattle.std.specs.Prelude.{◌≡◌, true, length};
+ghost use Rattle.std.specs.Prelude.{◌≡◌, ◌≤◌, ◌<◌, true, false, Err, MatchResult};
+ghost use Rattle.pairs.specs.Vertices.{is_pair, is_vertex};
+ghost use Rattle.arrangements.specs.Arrangement.{is_permitted};
 ghost use Rattle.graph.specs.Graph.{graph_of};
 ghost use Rattle.graph.specs.WellFormed.{well_formed};
-ghost use Rattle.graph.specs.Answers.{no_graph, changed, read_answer, set_answer, count_answer, degree_answer, relabel_answer};
+ghost use Rattle.graph.specs.Answers.{no_graph, unset, read_answer, set_answer, count_answer, degree_answer, relabel_answer};
 
 use arrangements::moved::moved_rows;
 use arrangements::permitted::is_permitted;
 use pairs::vertices::{is_pair, is_vertex, order_fits};
+use refusal::Refusal;
 use rows::entries::{entry_in, mark, ones_at, ones_in};
 use rows::fits::{rows_fit, starts_fit};
 
@@ -23,40 +26,19 @@ pub struct Graph {
     pub starts: u32,
 }
 
-// In each answer a refusal of 0 says that there is none.
-
-// An entry: 0 non-edge, 1 edge, 2 unknown.
+// Why an entry was not set, and the graph as it came.
 #[derive(Clone, Copy)]
-pub struct Reading {
-    pub refusal: u32,
-    pub place: usize,
-    pub value: u32,
-}
-
-// A graph made from another one.
-#[derive(Clone, Copy)]
-pub struct Change {
-    pub refusal: u32,
-    pub place: usize,
+pub struct Unset {
+    pub refusal: Refusal,
     pub graph: Graph,
 }
 
 // How many pairs are edges, non-edges and unknown.
 #[derive(Clone, Copy)]
 pub struct Totals {
-    pub refusal: u32,
-    pub place: usize,
     pub edges: u32,
     pub non_edges: u32,
     pub unknowns: u32,
-}
-
-// How many edges a vertex has.
-#[derive(Clone, Copy)]
-pub struct Degree {
-    pub refusal: u32,
-    pub place: usize,
-    pub edges: u32,
 }
 
 impl Graph {
@@ -66,169 +48,156 @@ impl Graph {
     {
         Graph {
             order: 0,
-            edges: [0u32; 32],
-            unknowns: [0u32; 32],
+            edges: [0; 32],
+            unknowns: [0; 32],
             starts: 0,
         }
     }
 
     // Is the order in range, the rows symmetric with nothing on the diagonal or past the order, no entry both known and
     // unknown, does vertex 1 start a block, and lies no start past the order?
-    pub fn is_well_formed(self) -> bool
-        ensures { result ≡ well_formed self }
+    pub fn is_well_formed(&self) -> bool
+        ensures { result ≡ well_formed self.now }
     {
         is_formed(self.order, &self.edges, &self.unknowns, self.starts)
     }
 
-    // The entry at (i, j).
-    pub fn read(self, i: u32, j: u32) -> Reading
-        ensures { result ≡ read_answer self i j }
+    // Refuses what is not well formed.
+    fn check_formed(&self) -> Result<(), Refusal>
+        ensures { MatchResult result (λ _. well_formed self.now ≡ true) (λ e. (well_formed self.now ≡ false) × (e ≡ Refusal.Malformed)) }
     {
         if self.is_well_formed() {
-            if is_pair(self.order, i, j) {
-                return Reading {
-                    refusal: 0,
-                    place: 0,
-                    value: entry_in(&self.edges, &self.unknowns, i, j),
-                };
-            }
-            return Reading {
-                refusal: 7,
-                place: 0,
-                value: 0,
-            };
-        }
-        Reading {
-            refusal: 8,
-            place: 0,
-            value: 0,
+            Ok(())
+        } else {
+            Err(Refusal::Malformed)
         }
     }
 
-    // The graph with the entry at (i, j), in both halves, made value; or the graph as it came.
-    pub fn set(mut self, i: u32, j: u32, value: u32) -> Change
+    // The entry at (i, j): 0 non-edge, 1 edge, 2 unknown.
+    pub fn read(&self, i: u32, j: u32) -> Result<u32, Refusal>
+        ensures { result ≡ read_answer self.now i j }
+    {
+        self.check_formed()?;
+        check_pair(self.order, i, j)?;
+        Ok(entry_in(&self.edges, &self.unknowns, i, j))
+    }
+
+    // The graph with the entry at (i, j), in both halves, made value; or the refusal with the graph as it came.
+    pub fn set(mut self, i: u32, j: u32, value: u32) -> Result<Graph, Unset>
         ensures { result ≡ set_answer self i j value }
     {
-        if self.is_well_formed() {
-            if is_pair(self.order, i, j) {
-                if value <= 2 {
-                    mark(&mut self.edges, i, j, value % 2);
-                    mark(&mut self.unknowns, i, j, value / 2);
-                    return answer(0, self);
-                }
-                return answer(9, self);
-            }
-            return answer(7, self);
+        if let Err(refusal) = check_setting(&self, i, j, value) {
+            return Err(Unset {
+                refusal,
+                graph: self,
+            });
         }
-        answer(8, self)
+        mark(&mut self.edges, i, j, value % 2);
+        mark(&mut self.unknowns, i, j, value / 2);
+        Ok(self)
     }
 
     // How many pairs are edges, non-edges and unknown.
-    pub fn count(self) -> Totals
-        ensures { result ≡ count_answer self }
+    pub fn count(&self) -> Result<Totals, Refusal>
+        ensures { result ≡ count_answer self.now }
     {
-        if self.is_well_formed() {
-            let edges = ones_in(&self.edges) / 2;
-            let unknowns = ones_in(&self.unknowns) / 2;
-            let pairs = self.order * (self.order - 1) / 2;
-            return Totals {
-                refusal: 0,
-                place: 0,
-                edges,
-                non_edges: pairs - edges - unknowns,
-                unknowns,
-            };
-        }
-        Totals {
-            refusal: 8,
-            place: 0,
-            edges: 0,
-            non_edges: 0,
-            unknowns: 0,
-        }
+        self.check_formed()?;
+        let edges = ones_in(&self.edges) / 2;
+        let unknowns = ones_in(&self.unknowns) / 2;
+        let pairs = self.order * (self.order - 1) / 2;
+        Ok(Totals {
+            edges,
+            non_edges: pairs - edges - unknowns,
+            unknowns,
+        })
     }
 
     // How many edges vertex v has.
-    pub fn count_at(self, v: u32) -> Degree
-        ensures { result ≡ degree_answer self v }
+    pub fn count_at(&self, v: u32) -> Result<u32, Refusal>
+        ensures { result ≡ degree_answer self.now v }
     {
-        if self.is_well_formed() {
-            if is_vertex(self.order, v) {
-                return Degree {
-                    refusal: 0,
-                    place: 0,
-                    edges: ones_at(&self.edges, v),
-                };
-            }
-            return Degree {
-                refusal: 7,
-                place: 0,
-                edges: 0,
-            };
-        }
-        Degree {
-            refusal: 8,
-            place: 0,
-            edges: 0,
-        }
+        self.check_formed()?;
+        check_vertex(self.order, v)?;
+        Ok(ones_at(&self.edges, v))
     }
 
     // The graph relabelled by p, with the same blocks.
-    pub fn relabel(self, p: [u8; 32]) -> Change
-        ensures { result ≡ relabel_answer self p }
+    pub fn relabel(&self, p: [u8; 32]) -> Result<Graph, Refusal>
+        ensures { result ≡ relabel_answer self.now p }
     {
-        if self.is_well_formed() {
-            let order = self.order;
-            let starts = self.starts;
-            if is_permitted(order, starts, p) {
-                let edges = moved_rows(&self.edges, &p, order);
-                let unknowns = moved_rows(&self.unknowns, &p, order);
-                return answer(
-                    0,
-                    Graph {
-                        order,
-                        edges,
-                        unknowns,
-                        starts,
-                    },
-                );
-            }
-            return answer(11, Graph::none());
-        }
-        answer(8, Graph::none())
+        self.check_formed()?;
+        let order = self.order;
+        let starts = self.starts;
+        check_permitted(order, starts, p)?;
+        Ok(Graph {
+            order,
+            edges: moved_rows(&self.edges, &p, order),
+            unknowns: moved_rows(&self.unknowns, &p, order),
+            starts,
+        })
     }
 }
 
-// Says that an array of rows has them all, which a reference to it does not tell.
-fn whole(rows: [u32; 32]) -> bool
-    ensures { (result ≡ true) × (length rows ≡ 32) }
+// Refuses what is no two vertices.
+fn check_pair(order: u32, i: u32, j: u32) -> Result<(), Refusal>
+    ensures { MatchResult result (λ _. is_pair order i j ≡ true) (λ e. (is_pair order i j ≡ false) × (e ≡ Refusal.Vertex)) }
 {
-    true
+    if is_pair(order, i, j) {
+        Ok(())
+    } else {
+        Err(Refusal::Vertex)
+    }
+}
+
+// Refuses what is no vertex.
+fn check_vertex(order: u32, v: u32) -> Result<(), Refusal>
+    ensures { MatchResult result (λ _. is_vertex order v ≡ true) (λ e. (is_vertex order v ≡ false) × (e ≡ Refusal.Vertex)) }
+{
+    if is_vertex(order, v) {
+        Ok(())
+    } else {
+        Err(Refusal::Vertex)
+    }
+}
+
+// Refuses what is no entry.
+fn check_value(value: u32) -> Result<(), Refusal>
+    ensures { MatchResult result (λ _. value ≤ 2) (λ e. (2 < value) × (e ≡ Refusal.Value)) }
+{
+    if value <= 2 {
+        Ok(())
+    } else {
+        Err(Refusal::Value)
+    }
+}
+
+// Refuses an arrangement that is not permitted.
+fn check_permitted(order: u32, starts: u32, p: [u8; 32]) -> Result<(), Refusal>
+    requires { order ≤ 32 }
+    ensures { MatchResult result (λ _. is_permitted order starts p ≡ true) (λ e. (is_permitted order starts p ≡ false) × (e ≡ Refusal.Arrangement)) }
+{
+    if is_permitted(order, starts, p) {
+        Ok(())
+    } else {
+        Err(Refusal::Arrangement)
+    }
+}
+
+// Refuses what can't be set.
+fn check_setting(graph: &Graph, i: u32, j: u32, value: u32) -> Result<(), Refusal>
+    ensures { MatchResult result (λ _. (well_formed graph.now ≡ true) × (is_pair graph.now.order i j ≡ true) × (value ≤ 2)) (λ e. Err (unset e graph.now) ≡ set_answer graph.now i j value) }
+{
+    graph.check_formed()?;
+    check_pair(graph.order, i, j)?;
+    check_value(value)
 }
 
 // Is the graph value of these rows well formed?
 pub fn is_formed<'a>(order: u32, edges: &'a [u32; 32], unknowns: &'a [u32; 32], starts: u32) -> bool
     ensures { result ≡ well_formed (graph_of order edges.now unknowns.now starts) }
 {
-    if order_fits(order) {
-        if starts_fit(order, starts) {
-            let fit = rows_fit(order, edges, unknowns);
-            whole(*edges);
-            whole(*unknowns);
-            return fit;
-        }
+    if !order_fits(order) {
         return false;
     }
-    false
-}
-
-// The graph that is answered, with a refusal's number.
-fn answer(refusal: u32, graph: Graph) -> Change
-    ensures { result ≡ changed refusal graph }
-{
-    Change {
-        refusal,
-        place: 0,
-        graph,
-    }
+    starts_fit(order, starts) && rows_fit(order, edges, unknowns)
 }

@@ -1,8 +1,12 @@
 use borrow.Author.Rules.{rules}
 use Rattle.laws.specs.TestLaws.{refused, passed}
-use Rattle.graph.proofs.CodeAnswers.{order_low, pairs_fit, edges_within, unknowns_within, totals_are}
 use Rattle.graph.specs.Answers.{count_answer}
+use Rattle.graph.proofs.CodeAnswers.{order_low, pairs_fit, edges_within, unknowns_within, totals_are}
 use Rattle.graph.proofs.Graph.count.Goals as goal
+
+pub returns-in_err-check_formed : goal.returns-in_err-check_formed
+unfolding count_answer
+returns-in_err-check_formed c = search (refused, rules)
 
 pub overflow_sub-pairs : goal.overflow_sub-pairs
 overflow_sub-pairs c = search (order_low, rules)
@@ -13,13 +17,9 @@ overflow_mul-pairs c = search (pairs_fit, rules)
 pub overflow_sub-result : goal.overflow_sub-result
 overflow_sub-result c = search (edges_within, rules)
 
-pub overflow_sub-result-then-is_well_formed : goal.overflow_sub-result-then-is_well_formed
-overflow_sub-result-then-is_well_formed c = search (unknowns_within, rules)
-
-pub returns-then-is_well_formed : goal.returns-then-is_well_formed
-unfolding count_answer
-returns-then-is_well_formed c = search (passed, totals_are, rules)
+pub overflow_sub-result-2 : goal.overflow_sub-result-2
+overflow_sub-result-2 c = search (unknowns_within, rules)
 
 pub returns : goal.returns
 unfolding count_answer
-returns c = search (refused, rules)
+returns c = search (passed, totals_are, rules)

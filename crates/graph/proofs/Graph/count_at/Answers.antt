@@ -1,21 +1,21 @@
 use borrow.Author.Rules.{rules}
 use Rattle.laws.specs.TestLaws.{refused, passed}
-use Rattle.graph.proofs.CodeAnswers.{vertex_most, degree_is}
 use Rattle.pairs.proofs.VertexLaws.{vertex_low}
 use Rattle.graph.specs.Answers.{degree_answer}
+use Rattle.graph.proofs.CodeAnswers.{vertex_most, degree_is}
 use Rattle.graph.proofs.Graph.count_at.Goals as goal
+
+pub returns-in_err-check_formed : goal.returns-in_err-check_formed
+unfolding degree_answer
+returns-in_err-check_formed c = search (refused, rules)
+
+pub returns-in_err-check_vertex : goal.returns-in_err-check_vertex
+unfolding degree_answer
+returns-in_err-check_vertex c = search (refused, passed, rules)
 
 pub ones_at-requires : goal.ones_at-requires
 ones_at-requires c = search (vertex_low, vertex_most, rules)
 
-pub returns-then-is_vertex : goal.returns-then-is_vertex
-unfolding degree_answer
-returns-then-is_vertex c = search (passed, degree_is, rules)
-
-pub returns-then-is_well_formed : goal.returns-then-is_well_formed
-unfolding degree_answer
-returns-then-is_well_formed c = search (refused, passed, rules)
-
 pub returns : goal.returns
 unfolding degree_answer
-returns c = search (refused, rules)
+returns c = search (passed, degree_is, rules)

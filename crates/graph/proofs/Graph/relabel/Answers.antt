@@ -1,26 +1,26 @@
 use borrow.Author.Rules.{rules}
 use Rattle.laws.specs.TestLaws.{refused, passed}
-use Rattle.graph.proofs.CodeAnswers.{order_high, permitted_reorders, relabelled_is, refused_graph}
 use Rattle.graph.specs.Answers.{relabel_answer}
+use Rattle.graph.proofs.CodeAnswers.{order_high, permitted_reorders, relabelled_is}
 use Rattle.graph.proofs.Graph.relabel.Goals as goal
 
-pub is_permitted-requires : goal.is_permitted-requires
-is_permitted-requires c = search (order_high, rules)
-
-pub moved_rows-edges-requires : goal.moved_rows-edges-requires
-moved_rows-edges-requires c = search (order_high, permitted_reorders, rules)
-
-pub moved_rows-unknowns-requires : goal.moved_rows-unknowns-requires
-moved_rows-unknowns-requires c = search (order_high, permitted_reorders, rules)
-
-pub returns-then-is_permitted : goal.returns-then-is_permitted
+pub returns-in_err-check_formed : goal.returns-in_err-check_formed
 unfolding relabel_answer
-returns-then-is_permitted c = search (passed, relabelled_is, rules)
+returns-in_err-check_formed c = search (refused, rules)
 
-pub returns-then-is_well_formed : goal.returns-then-is_well_formed
+pub check_permitted-requires : goal.check_permitted-requires
+check_permitted-requires c = search (order_high, rules)
+
+pub returns-in_err-check_permitted : goal.returns-in_err-check_permitted
 unfolding relabel_answer
-returns-then-is_well_formed c = search (refused, passed, refused_graph, rules)
+returns-in_err-check_permitted c = search (refused, passed, rules)
+
+pub moved_rows-requires : goal.moved_rows-requires
+moved_rows-requires c = search (order_high, permitted_reorders, rules)
+
+pub moved_rows-requires-2 : goal.moved_rows-requires-2
+moved_rows-requires-2 c = search (order_high, permitted_reorders, rules)
 
 pub returns : goal.returns
 unfolding relabel_answer
-returns c = search (refused, refused_graph, rules)
+returns c = search (passed, relabelled_is, rules)
