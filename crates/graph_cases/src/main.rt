@@ -6,10 +6,10 @@
 
 #![tactic(auto)]
 
-use composing::Arrangement;
-use graph::{Change, Graph};
+use graph::{Graph, Totals};
 use input::read_full;
-use show::{filled, from_column, text};
+use refusal::Refusal;
+use show::{from_column, text};
 use std::io;
 use std::io::Print;
 use tables::{digit_at, row_end};
@@ -49,104 +49,84 @@ fn arrangement(row: &[u8], column: u32) -> [u8; 32] {
 
 // ---- what is printed
 
-fn show_rows(to: &impl Print, template: &[u8], rows: [u32; 32]) -> io::Result<()> {
-    filled(
-        to,
-        template,
-        [rows[0] as u64, rows[1] as u64, rows[2] as u64, 0, 0, 0],
-    )
+// The number of a refusal and its place, or zeros where there is none.
+fn show_refusal(to: &impl Print, refusal: Option<Refusal>) -> io::Result<()> {
+    let (number, place) = match refusal {
+        Some(why) => (why.number(), why.place()),
+        None => (0, 0),
+    };
+    print!(to; " refusal {number}, place {place}")
 }
 
 // Rows 1, 2 and 3 of a graph of order 3.
-fn show_change(to: &impl Print, c: Change) -> io::Result<()> {
-    let g = c.graph;
-    filled(
-        to,
-        b" refusal #, place #, order #, starts #",
-        [
-            c.refusal as u64,
-            c.place as u64,
-            g.order as u64,
-            g.starts as u64,
-            0,
-            0,
-        ],
-    )?;
-    let edges = g.edges;
-    show_rows(to, b", edges # # #", edges)?;
-    let unknowns = g.unknowns;
-    show_rows(to, b", unknowns # # #\n", unknowns)
+fn show_graph(to: &impl Print, graph: Graph) -> io::Result<()> {
+    let [e, f, g, ..] = graph.edges;
+    let [u, v, w, ..] = graph.unknowns;
+    print!(to; ", order {}, starts {}", graph.order, graph.starts)?;
+    println!(to; ", edges {e} {f} {g}, unknowns {u} {v} {w}")
 }
 
 // Places 1 to 4.
-fn show_arrangement(to: &impl Print, a: Arrangement) -> io::Result<()> {
-    filled(
-        to,
-        b" refusal #, place #, vertices # # # #\n",
-        [
-            a.refusal as u64,
-            a.place as u64,
-            a.vertices[0] as u64,
-            a.vertices[1] as u64,
-            a.vertices[2] as u64,
-            a.vertices[3] as u64,
-        ],
-    )
+fn show_arrangement(to: &impl Print, answer: Result<[u8; 32], Refusal>) -> io::Result<()> {
+    show_refusal(to, answer.err())?;
+    let [a, b, c, d, ..] = answer.unwrap_or([0; 32]);
+    println!(to; ", vertices {a} {b} {c} {d}")
 }
 
 // ---- the kinds of case
 
 fn formed(to: &impl Print, row: &[u8]) -> io::Result<()> {
     if graph(row).is_well_formed() {
-        text(to, b" well formed\n")
+        println!(to; " well formed")
     } else {
-        text(to, b" not well formed\n")
+        println!(to; " not well formed")
     }
 }
 
 fn read(to: &impl Print, row: &[u8]) -> io::Result<()> {
-    let r = graph(row).read(digit_at(row, 11), digit_at(row, 12));
-    filled(
-        to,
-        b" refusal #, place #, value #\n",
-        [r.refusal as u64, r.place as u64, r.value as u64, 0, 0, 0],
-    )
+    let answer = graph(row).read(digit_at(row, 11), digit_at(row, 12));
+    show_refusal(to, answer.err())?;
+    println!(to; ", value {}", answer.unwrap_or(0))
 }
 
 fn set(to: &impl Print, row: &[u8]) -> io::Result<()> {
-    show_change(
-        to,
-        graph(row).set(digit_at(row, 11), digit_at(row, 12), digit_at(row, 13)),
-    )
+    match graph(row).set(digit_at(row, 11), digit_at(row, 12), digit_at(row, 13)) {
+        Ok(graph) => {
+            show_refusal(to, None)?;
+            show_graph(to, graph)
+        }
+        Err(unset) => {
+            show_refusal(to, Some(unset.refusal))?;
+            show_graph(to, unset.graph)
+        }
+    }
 }
 
 fn count(to: &impl Print, row: &[u8]) -> io::Result<()> {
-    let t = graph(row).count();
-    filled(
-        to,
-        b" refusal #, place #, edges #, non-edges #, unknowns #\n",
-        [
-            t.refusal as u64,
-            t.place as u64,
-            t.edges as u64,
-            t.non_edges as u64,
-            t.unknowns as u64,
-            0,
-        ],
-    )
+    let answer = graph(row).count();
+    show_refusal(to, answer.err())?;
+    let Totals {
+        edges,
+        non_edges,
+        unknowns,
+    } = answer.unwrap_or(Totals {
+        edges: 0,
+        non_edges: 0,
+        unknowns: 0,
+    });
+    println!(to; ", edges {edges}, non-edges {non_edges}, unknowns {unknowns}")
 }
 
 fn count_at(to: &impl Print, row: &[u8]) -> io::Result<()> {
-    let d = graph(row).count_at(digit_at(row, 11));
-    filled(
-        to,
-        b" refusal #, place #, edges #\n",
-        [d.refusal as u64, d.place as u64, d.edges as u64, 0, 0, 0],
-    )
+    let answer = graph(row).count_at(digit_at(row, 11));
+    show_refusal(to, answer.err())?;
+    println!(to; ", edges {}", answer.unwrap_or(0))
 }
 
 fn relabel(to: &impl Print, row: &[u8]) -> io::Result<()> {
-    show_change(to, graph(row).relabel(arrangement(row, 11)))
+    let answer = graph(row).relabel(arrangement(row, 11));
+    show_refusal(to, answer.err())?;
+    show_graph(to, answer.unwrap_or(Graph::none()))
 }
 
 fn compose(to: &impl Print, row: &[u8]) -> io::Result<()> {
