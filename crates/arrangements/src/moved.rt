@@ -24,10 +24,8 @@ fn moved_row<'a>(rows: &'a [u32; 32], p: &'a [u8; 32], n: u32, i: u32) -> u32
     let from = (vertex_of(n, p, i) - 1) as usize;
     let w = rows[from];
     let mut row = 0;
-    let mut j = 0;
-    while j < n {
+    for j in 0..n {
         row += moved_weight(w, n, p, j);
-        j += 1;
     }
     row
 }
@@ -38,11 +36,9 @@ pub fn moved_rows<'a>(rows: &'a [u32; 32], p: &'a [u8; 32], n: u32) -> [u32; 32]
     ensures { result ≡ placed (moved_row rows.now p.now n) n }
 {
     let mut out = [0u32; 32];
-    let mut i = 0;
-    while i < n {
+    for i in 0..n {
         let at = i as usize;
         out[at] = moved_row(rows, p, n, i + 1);
-        i += 1;
     }
     out
 }

@@ -13,10 +13,8 @@ pub fn block_of(starts: u32, v: u32) -> u32
     ensures { (result ≡ block_of starts v) × (result ≤ 32) }
 {
     let mut blocks = 0;
-    let mut i = 0;
-    while i < v {
+    for i in 0..v {
         blocks += (starts >> i) % 2;
-        i += 1;
     }
     blocks
 }
@@ -36,11 +34,8 @@ fn blocks_kept(n: u32, starts: u32, p: &[u8; 32]) -> bool
     requires { (n ≤ 32) × (is_reordering n p.now ≡ true) }
     ensures { result ≡ all_up_to (stays_in_block starts p.now) n }
 {
-    let mut i = 0;
-    while i < n {
-        if stays_in_block(starts, p, i + 1) {
-            i += 1;
-        } else {
+    for i in 0..n {
+        if !stays_in_block(starts, p, i + 1) {
             return false;
         }
     }
@@ -52,8 +47,5 @@ pub fn is_permitted(n: u32, starts: u32, p: [u8; 32]) -> bool
     requires { n ≤ 32 }
     ensures { result ≡ is_permitted n starts p }
 {
-    if is_reordering(n, p) {
-        return blocks_kept(n, starts, &p);
-    }
-    false
+    is_reordering(n, p) && blocks_kept(n, starts, &p)
 }

@@ -2,20 +2,13 @@
 ghost use Rattle.std.specs.Prelude.{◌≡◌, true, ◌≤◌, ◌<◌};
 ghost use Rattle.arrangements.specs.Arrangement.{at, is_reordering};
 
-// A byte as a wider number.
-fn small(x: u8) -> u32
-    ensures { (result ≡ x) × (result < 256) }
-{
-    x as u32
-}
-
 // The vertex at place i.
 pub fn vertex_at(p: &[u8; 32], i: u32) -> u32
     requires { (1 ≤ i) × (i ≤ 32) }
     ensures { (result ≡ at p.now i) × (result < 256) }
 {
     let k = (i - 1) as usize;
-    small(p[k])
+    u32::from(p[k])
 }
 
 // The vertex that a reordering of 1..n has at place i.

@@ -17,11 +17,8 @@ fn is_new(p: &[u8; 32], i: u32) -> bool
     requires { (1 ≤ i) × (i ≤ 32) }
     ensures { result ≡ is_new p.now i }
 {
-    let mut j = 0;
-    while j < i - 1 {
-        if differ(p, i, j + 1) {
-            j += 1;
-        } else {
+    for j in 0..i - 1 {
+        if !differ(p, i, j + 1) {
             return false;
         }
     }
@@ -50,11 +47,8 @@ fn place_fits(n: u32, p: &[u8; 32], i: u32) -> bool
 pub fn is_reordering(n: u32, p: [u8; 32]) -> bool
     ensures { result ≡ is_reordering n p }
 {
-    let mut i = 0;
-    while i < 32 {
-        if place_fits(n, &p, i + 1) {
-            i += 1;
-        } else {
+    for i in 0..32 {
+        if !place_fits(n, &p, i + 1) {
             return false;
         }
     }

@@ -21,11 +21,9 @@ pub fn composed_of<'a>(n: u32, p: &'a [u8; 32], q: &'a [u8; 32]) -> [u8; 32]
     ensures { result ≡ composed n p.now q.now }
 {
     let mut out = [0u8; 32];
-    let mut i = 0;
-    while i < n {
+    for i in 0..n {
         let at = i as usize;
         out[at] = through_at(n, p, q, i + 1);
-        i += 1;
     }
     out
 }
@@ -36,11 +34,9 @@ pub fn inverse_of(n: u32, p: &[u8; 32]) -> [u8; 32]
     ensures { result ≡ inverse n p.now }
 {
     let mut out = [0u8; 32];
-    let mut i = 0;
-    while i < n {
+    for i in 0..n {
         let at = (vertex_of(n, p, i + 1) - 1) as usize;
         out[at] = (i + 1) as u8;
-        i += 1;
     }
     out
 }

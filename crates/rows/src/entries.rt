@@ -4,16 +4,17 @@ ghost use Rattle.std.specs.Int.Count.{ones};
 ghost use Rattle.laws.specs.UpTo.{sum_up_to};
 ghost use Rattle.rows.specs.Rows.{entry_in, with_mark, ones_at};
 
+use words::turned::Rows;
 use words::with_bit;
 
 // The entry of the rows at (i, j).
-pub fn entry_in<'a>(edges: &'a [u32; 32], unknowns: &'a [u32; 32], i: u32, j: u32) -> u32
+pub fn entry_in(rows: Rows, i: u32, j: u32) -> u32
     requires { (1 ≤ i) × (i ≤ 32) × (1 ≤ j) × (j ≤ 32) }
-    ensures { (result ≡ entry_in edges.now unknowns.now i j) × (result ≤ 3) }
+    ensures { (result ≡ entry_in rows.entry.edges.now rows.entry.unknowns.now i j) × (result ≤ 3) }
 {
     let at = (i - 1) as usize;
-    let e = edges[at];
-    let u = unknowns[at];
+    let e = rows.edges[at];
+    let u = rows.unknowns[at];
     (e >> (j - 1)) % 2 + 2 * ((u >> (j - 1)) % 2)
 }
 
@@ -38,10 +39,8 @@ pub fn ones_in(rows: &[u32; 32]) -> u32
     ensures { (result ≡ sum_up_to (ones_at rows.now) 32) × (result ≤ 1024) }
 {
     let mut sum = 0;
-    let mut i = 0;
-    while i < 32 {
+    for i in 0..32 {
         sum += ones_at(rows, i + 1);
-        i += 1;
     }
     sum
 }

@@ -5,7 +5,7 @@ ghost use Rattle.laws.specs.Test.{pick};
 ghost use Rattle.rows.specs.Fits.{row_fits, starts_fit};
 ghost use Rattle.rows.specs.Standing.{fault, row_fault, row_stands};
 
-use words::turned::transposed_of;
+use words::turned::{Rows, transposed_of};
 use words::{limit_of, power, wide, without};
 
 // What row i is a part of: the vertices up to the order, and none past it.
@@ -29,57 +29,42 @@ fn fault_of(e: u32, u: u32, f: u32, v: u32, diagonal: u32, inside: u32) -> u32
 }
 
 // The faults of row i, beside the columns.
-fn row_fault<'a>(
-    order: u32,
-    edges: &'a [u32; 32],
-    unknowns: &'a [u32; 32],
-    columns: &'a [u32; 32],
-    others: &'a [u32; 32],
-    i: u32,
-) -> u32
+fn row_fault(order: u32, rows: Rows, columns: Rows, i: u32) -> u32
     requires { (order ≤ 32) × (1 ≤ i) × (i ≤ 32) }
-    ensures { result ≡ row_fault order edges.now unknowns.now columns.now others.now i }
+    ensures { result ≡ row_fault order rows.entry.edges.now rows.entry.unknowns.now columns.entry.edges.now columns.entry.unknowns.now i }
 {
     let k = (i - 1) as usize;
     let diagonal = power(i - 1);
     let inside = row_limit(order, i);
     fault_of(
-        edges[k],
-        unknowns[k],
-        columns[k],
-        others[k],
+        rows.edges[k],
+        rows.unknowns[k],
+        columns.edges[k],
+        columns.unknowns[k],
         diagonal,
         inside,
     )
 }
 
 // Is no row at fault?
-fn rows_stand<'a>(
-    order: u32,
-    edges: &'a [u32; 32],
-    unknowns: &'a [u32; 32],
-    columns: &'a [u32; 32],
-    others: &'a [u32; 32],
-) -> bool
+fn rows_stand(order: u32, rows: Rows, columns: Rows) -> bool
     requires { order ≤ 32 }
-    ensures { result ≡ all_up_to (row_stands order edges.now unknowns.now columns.now others.now) 32 }
+    ensures { result ≡ all_up_to (row_stands order rows.entry.edges.now rows.entry.unknowns.now columns.entry.edges.now columns.entry.unknowns.now) 32 }
 {
     let mut faults = 0u32;
-    let mut i = 0;
-    while i < 32 {
-        faults = faults | row_fault(order, edges, unknowns, columns, others, i + 1);
-        i += 1;
+    for i in 0..32 {
+        faults |= row_fault(order, rows, columns, i + 1);
     }
     faults == 0
 }
 
 // Does every row fit?
-pub fn rows_fit<'a>(order: u32, edges: &'a [u32; 32], unknowns: &'a [u32; 32]) -> bool
+pub fn rows_fit(order: u32, rows: Rows) -> bool
     requires { order ≤ 32 }
-    ensures { result ≡ all_up_to (row_fits order edges.now unknowns.now) 32 }
+    ensures { result ≡ all_up_to (row_fits order rows.entry.edges.now rows.entry.unknowns.now) 32 }
 {
-    let columns = transposed_of(edges, unknowns);
-    rows_stand(order, edges, unknowns, &columns.edges, &columns.unknowns)
+    let columns = transposed_of(rows);
+    rows_stand(order, rows, columns.lend())
 }
 
 // Does vertex 1 start a block, and lies no start past the order?

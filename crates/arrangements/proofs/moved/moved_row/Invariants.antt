@@ -6,7 +6,4 @@ use Rattle.arrangements.specs.Arrangement.{at, moved_bit}
 use Rattle.arrangements.proofs.moved.moved_row.Given as goal
 
 abbrev pub invariant-loop-j : goal.invariant-loop-j
-invariant-loop-j l = (l.j ≤ l.n) × (l.w ≡ row_of l.rows (at l.p l.i)) × (l.row ≡ word_up_to (moved_bit l.rows l.p l.i) l.j) × (l.row < 2 ^ l.j)
-
-abbrev pub decreases-loop-j : goal.decreases-loop-j
-decreases-loop-j l = l.n - l.j
+invariant-loop-j l = (l.w ≡ row_of l.rows (at l.p l.i)) × (l.row ≡ word_up_to (moved_bit l.rows l.p l.i) l.j) × (l.row < 2 ^ l.j)

@@ -5,7 +5,4 @@ use Rattle.arrangements.specs.Arrangement.{moved_row}
 use Rattle.arrangements.proofs.moved.moved_rows.Given as goal
 
 abbrev pub invariant-loop-i : goal.invariant-loop-i
-invariant-loop-i l = (l.i ≤ l.n) × (l.out ≡ placed (moved_row l.rows l.p l.n) l.i)
-
-abbrev pub decreases-loop-i : goal.decreases-loop-i
-decreases-loop-i l = l.n - l.i
+invariant-loop-i l = (l.out ≡ placed (moved_row l.rows l.p l.n) l.i)

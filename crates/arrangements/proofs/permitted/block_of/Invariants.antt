@@ -5,7 +5,4 @@ use Rattle.rows.specs.Rows.{start_at}
 use Rattle.arrangements.proofs.permitted.block_of.Given as goal
 
 abbrev pub invariant-loop-i : goal.invariant-loop-i
-invariant-loop-i l = (l.i ≤ l.v) × (l.blocks ≡ sum_up_to (start_at l.starts) l.i) × (l.blocks ≤ l.i)
-
-abbrev pub decreases-loop-i : goal.decreases-loop-i
-decreases-loop-i l = l.v - l.i
+invariant-loop-i l = (l.blocks ≡ sum_up_to (start_at l.starts) l.i) × (l.blocks ≤ l.i)

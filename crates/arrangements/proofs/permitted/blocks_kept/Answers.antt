@@ -12,8 +12,8 @@ stays_in_block-requires c = search (vertex_in, rules)
 pub loop-i-preserved : goal.loop-i-preserved
 loop-i-preserved c = search (all_turns, rules)
 
-pub returns-else-stays_in_block : goal.returns-else-stays_in_block
-returns-else-stays_in_block c = search (all_stops, rules)
+pub returns-then-not-stays_in_block : goal.returns-then-not-stays_in_block
+returns-then-not-stays_in_block c = search (all_stops, rules)
 
 pub returns : goal.returns
 returns c = search (all_done, rules)

@@ -6,7 +6,4 @@ use Rattle.arrangements.specs.Arrangement.{stays_in_block}
 use Rattle.arrangements.proofs.permitted.blocks_kept.Given as goal
 
 abbrev pub invariant-loop-i : goal.invariant-loop-i
-invariant-loop-i l = (l.i ≤ l.n) × (all_up_to (stays_in_block l.starts l.p) l.i ≡ true)
-
-abbrev pub decreases-loop-i : goal.decreases-loop-i
-decreases-loop-i l = l.n - l.i
+invariant-loop-i l = (all_up_to (stays_in_block l.starts l.p) l.i ≡ true)

@@ -8,5 +8,5 @@ blocks_kept-requires c = search (known_reordering, rules)
 pub returns-then-is_reordering : goal.returns-then-is_reordering
 returns-then-is_reordering c = search (permitted_is, rules)
 
-pub returns : goal.returns
-returns c = search (permitted_not, rules)
+pub returns-else-is_reordering : goal.returns-else-is_reordering
+returns-else-is_reordering c = search (permitted_not, rules)

@@ -9,8 +9,8 @@ loop-j-init c = search (all_starts, rules)
 pub loop-j-preserved : goal.loop-j-preserved
 loop-j-preserved c = search (all_turns, rules)
 
-pub returns-else-differ : goal.returns-else-differ
-returns-else-differ c = search (new_stops, rules)
+pub returns-then-not-differ : goal.returns-then-not-differ
+returns-then-not-differ c = search (new_stops, rules)
 
 pub returns : goal.returns
 returns c = search (new_done, rules)

@@ -6,7 +6,4 @@ use Rattle.arrangements.specs.Arrangement.{differs}
 use Rattle.arrangements.proofs.reordering.is_new.Given as goal
 
 abbrev pub invariant-loop-j : goal.invariant-loop-j
-invariant-loop-j l = (l.j ≤ l.i - 1) × (all_up_to (differs l.p l.i) l.j ≡ true)
-
-abbrev pub decreases-loop-j : goal.decreases-loop-j
-decreases-loop-j l = l.i - 1 - l.j
+invariant-loop-j l = (all_up_to (differs l.p l.i) l.j ≡ true)

@@ -9,8 +9,8 @@ loop-i-init c = search (all_starts, rules)
 pub loop-i-preserved : goal.loop-i-preserved
 loop-i-preserved c = search (all_turns, rules)
 
-pub returns-else-place_fits : goal.returns-else-place_fits
-returns-else-place_fits c = search (reordering_stops, rules)
+pub returns-then-not-place_fits : goal.returns-then-not-place_fits
+returns-then-not-place_fits c = search (reordering_stops, rules)
 
 pub returns : goal.returns
 returns c = search (reordering_done, rules)

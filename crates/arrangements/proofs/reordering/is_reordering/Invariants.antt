@@ -6,7 +6,4 @@ use Rattle.arrangements.specs.Arrangement.{place_fits}
 use Rattle.arrangements.proofs.reordering.is_reordering.Given as goal
 
 abbrev pub invariant-loop-i : goal.invariant-loop-i
-invariant-loop-i l = (l.i ≤ 32) × (all_up_to (place_fits l.n l.p) l.i ≡ true)
-
-abbrev pub decreases-loop-i : goal.decreases-loop-i
-decreases-loop-i l = 32 - l.i
+invariant-loop-i l = (all_up_to (place_fits l.n l.p) l.i ≡ true)

@@ -5,7 +5,4 @@ use Rattle.composing.specs.Composed.{through}
 use Rattle.composing.proofs.composed.composed_of.Given as goal
 
 abbrev pub invariant-loop-i : goal.invariant-loop-i
-invariant-loop-i l = (l.i ≤ l.n) × (l.out ≡ placed (through l.p l.q) l.i)
-
-abbrev pub decreases-loop-i : goal.decreases-loop-i
-decreases-loop-i l = l.n - l.i
+invariant-loop-i l = (l.out ≡ placed (through l.p l.q) l.i)

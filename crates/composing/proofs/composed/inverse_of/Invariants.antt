@@ -5,7 +5,4 @@ use Rattle.composing.specs.Composed.{place_of}
 use Rattle.composing.proofs.composed.inverse_of.Given as goal
 
 abbrev pub invariant-loop-i : goal.invariant-loop-i
-invariant-loop-i l = (l.i ≤ l.n) × (l.out ≡ placed (place_of l.p l.i) l.n)
-
-abbrev pub decreases-loop-i : goal.decreases-loop-i
-decreases-loop-i l = l.n - l.i
+invariant-loop-i l = (l.out ≡ placed (place_of l.p l.i) l.n)

@@ -6,7 +6,7 @@ pub loop-i-init : goal.loop-i-init
 loop-i-init c = search (sum_starts, rules)
 
 pub loop-i-preserved : goal.loop-i-preserved
-loop-i-preserved c = (search rules, search sum_turns, search rules)
+loop-i-preserved c = (search sum_turns, search rules)
 
 pub returns : goal.returns
 returns c = search (sum_done, rules)

@@ -5,7 +5,4 @@ use Rattle.rows.specs.Rows.{ones_at}
 use Rattle.rows.proofs.entries.ones_in.Given as goal
 
 abbrev pub invariant-loop-i : goal.invariant-loop-i
-invariant-loop-i l = (l.i ≤ 32) × (l.sum ≡ sum_up_to (ones_at l.rows) l.i) × (l.sum ≤ 32 * l.i)
-
-abbrev pub decreases-loop-i : goal.decreases-loop-i
-decreases-loop-i l = 32 - l.i
+invariant-loop-i l = (l.sum ≡ sum_up_to (ones_at l.rows) l.i) × (l.sum ≤ 32 * l.i)

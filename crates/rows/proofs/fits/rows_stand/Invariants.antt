@@ -6,7 +6,4 @@ use Rattle.rows.specs.Standing.{row_stands}
 use Rattle.rows.proofs.fits.rows_stand.Given as goal
 
 abbrev pub invariant-loop-i : goal.invariant-loop-i
-invariant-loop-i l = (l.i ≤ 32) × (eqb l.faults 0 ≡ all_up_to (row_stands l.order l.edges l.unknowns l.columns l.others) l.i)
-
-abbrev pub decreases-loop-i : goal.decreases-loop-i
-decreases-loop-i l = 32 - l.i
+invariant-loop-i l = (eqb l.faults 0 ≡ all_up_to (row_stands l.order l.rows.edges.now l.rows.unknowns.now l.columns.edges.now l.columns.unknowns.now) l.i)
