@@ -2,10 +2,10 @@
 
 #![tactic(auto)]
 
-ghost use Rattle.std.specs.Prelude.{◌≡◌, ◌≤◌, ◌<◌, true, false, Err, MatchResult};
+ghost use Rattle.std.specs.Prelude.{◌≡◌, ◌≤◌, ◌<◌, true, false, length, Err, MatchResult};
 ghost use Rattle.pairs.specs.Vertices.{is_pair, is_vertex};
 ghost use Rattle.arrangements.specs.Arrangement.{is_permitted};
-ghost use Rattle.graph.specs.Graph.{graph_of};
+ghost use Rattle.graph.specs.Lent.{lent};
 ghost use Rattle.graph.specs.WellFormed.{well_formed};
 ghost use Rattle.graph.specs.Answers.{no_graph, unset, read_answer, set_answer, count_answer, degree_answer, relabel_answer};
 
@@ -15,6 +15,7 @@ use pairs::vertices::{is_pair, is_vertex, order_fits};
 use refusal::Refusal;
 use rows::entries::{entry_in, mark, ones_at, ones_in};
 use rows::fits::{rows_fit, starts_fit};
+use words::turned::Rows;
 
 // A partially drawn graph. The row of vertex i stands at index i - 1, and vertex j is its bit j - 1; an entry is 1 where
 // its bit is set in edges, unknown where it is set in unknowns. In starts, bit v - 1 is set where vertex v starts a block.
@@ -24,6 +25,21 @@ pub struct Graph {
     pub edges: [u32; 32],
     pub unknowns: [u32; 32],
     pub starts: u32,
+}
+
+// A graph whose rows are lent.
+#[derive(Clone, Copy)]
+pub struct LentGraph<'a> {
+    pub order: u32,
+    pub rows: Rows<'a>,
+    pub starts: u32,
+}
+
+// A graph that is well formed, its rows lent.
+#[derive(Clone, Copy)]
+pub struct FormedGraph<'a> {
+    pub graph: LentGraph<'a>,
+    ghost formed: { well_formed (lent graph) ≡ true },
 }
 
 // Why an entry was not set, and the graph as it came.
@@ -54,12 +70,26 @@ impl Graph {
         }
     }
 
+    // Lends the rows.
+    pub fn lend(&self) -> LentGraph<'_>
+        ensures { lent result ≡ self.now }
+    {
+        LentGraph {
+            order: self.order,
+            rows: Rows {
+                edges: &self.edges,
+                unknowns: &self.unknowns,
+            },
+            starts: self.starts,
+        }
+    }
+
     // Is the order in range, the rows symmetric with nothing on the diagonal or past the order, no entry both known and
     // unknown, does vertex 1 start a block, and lies no start past the order?
     pub fn is_well_formed(&self) -> bool
         ensures { result ≡ well_formed self.now }
     {
-        is_formed(self.order, &self.edges, &self.unknowns, self.starts)
+        self.lend().is_well_formed()
     }
 
     // Refuses what is not well formed.
@@ -79,7 +109,7 @@ impl Graph {
     {
         self.check_formed()?;
         check_pair(self.order, i, j)?;
-        Ok(entry_in(&self.edges, &self.unknowns, i, j))
+        Ok(entry_in(self.lend().rows, i, j))
     }
 
     // The graph with the entry at (i, j), in both halves, made value; or the refusal with the graph as it came.
@@ -192,12 +222,32 @@ fn check_setting(graph: &Graph, i: u32, j: u32, value: u32) -> Result<(), Refusa
     check_value(value)
 }
 
-// Is the graph value of these rows well formed?
-pub fn is_formed<'a>(order: u32, edges: &'a [u32; 32], unknowns: &'a [u32; 32], starts: u32) -> bool
-    ensures { result ≡ well_formed (graph_of order edges.now unknowns.now starts) }
-{
-    if !order_fits(order) {
-        return false;
+// Says that an array of rows has them all, which a reference in a struct does not tell.
+fn whole(rows: [u32; 32])
+    ensures { length rows ≡ 32 }
+{}
+
+impl<'a> LentGraph<'a> {
+    // Is the graph value well formed?
+    pub fn is_well_formed(self) -> bool
+        ensures { result ≡ well_formed (lent self.entry) }
+    {
+        if !order_fits(self.order) {
+            return false;
+        }
+        whole(*self.rows.edges);
+        whole(*self.rows.unknowns);
+        starts_fit(self.order, self.starts) && rows_fit(self.order, self.rows)
     }
-    starts_fit(order, starts) && rows_fit(order, edges, unknowns)
+
+    // The graph as one that is well formed.
+    pub fn formed(self) -> Result<FormedGraph<'a>, Refusal>
+        ensures { MatchResult result (λ f. f.graph ≡ self.entry) (λ e. (well_formed (lent self.entry) ≡ false) × (e ≡ Refusal.Malformed)) }
+    {
+        if self.is_well_formed() {
+            Ok(FormedGraph { graph: self })
+        } else {
+            Err(Refusal::Malformed)
+        }
+    }
 }

@@ -1,7 +1,7 @@
 use borrow.Author.Rules.{rules}
 use Rattle.pairs.proofs.VertexLaws.{order_most}
 use Rattle.graph.proofs.CodeAnswers.{formed_not_order, formed_not_starts, formed_rows}
-use Rattle.graph.proofs.is_formed.Goals as goal
+use Rattle.graph.proofs.LentGraph.is_well_formed.Goals as goal
 
 pub returns-then-not-order_fits : goal.returns-then-not-order_fits
 returns-then-not-order_fits c = search (formed_not_order, rules)
