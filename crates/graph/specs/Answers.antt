@@ -33,8 +33,11 @@ set_answer g i j value =
 abbrev pub totals : ℕ → ℕ → ℕ → Totals
 totals e z u = record { edges = e; non_edges = z; unknowns = u }
 
+unfoldable pub totals_of : Graph → Totals
+totals_of g = totals (pairs_with g 1) (pairs_with g 0) (pairs_with g 2)
+
 unfoldable pub count_answer : Graph → Result Totals Refusal
-count_answer g = unless (well_formed g) (Err Malformed) (Ok (totals (pairs_with g 1) (pairs_with g 0) (pairs_with g 2)))
+count_answer g = unless (well_formed g) (Err Malformed) (Ok (totals_of g))
 
 unfoldable pub degree_answer : Graph → ℕ → Result ℕ Refusal
 degree_answer g v = unless (well_formed g) (Err Malformed) (unless (is_vertex g.order v) (Err Vertex) (Ok (edges_at g v)))

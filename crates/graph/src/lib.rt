@@ -7,7 +7,7 @@ ghost use Rattle.pairs.specs.Vertices.{is_pair, is_vertex};
 ghost use Rattle.arrangements.specs.Arrangement.{is_permitted};
 ghost use Rattle.graph.specs.Lent.{lent};
 ghost use Rattle.graph.specs.WellFormed.{well_formed};
-ghost use Rattle.graph.specs.Answers.{no_graph, unset, read_answer, set_answer, count_answer, degree_answer, relabel_answer};
+ghost use Rattle.graph.specs.Answers.{no_graph, unset, totals_of, read_answer, set_answer, count_answer, degree_answer, relabel_answer};
 
 use arrangements::moved::moved_rows;
 use arrangements::permitted::is_permitted;
@@ -92,22 +92,11 @@ impl Graph {
         self.lend().is_well_formed()
     }
 
-    // Refuses what is not well formed.
-    fn check_formed(&self) -> Result<(), Refusal>
-        ensures { MatchResult result (λ _. well_formed self.now ≡ true) (λ e. (well_formed self.now ≡ false) × (e ≡ Refusal.Malformed)) }
-    {
-        if self.is_well_formed() {
-            Ok(())
-        } else {
-            Err(Refusal::Malformed)
-        }
-    }
-
     // The entry at (i, j): 0 non-edge, 1 edge, 2 unknown.
     pub fn read(&self, i: u32, j: u32) -> Result<u32, Refusal>
         ensures { result ≡ read_answer self.now i j }
     {
-        self.check_formed()?;
+        self.lend().formed()?;
         check_pair(self.order, i, j)?;
         Ok(entry_in(self.lend().rows, i, j))
     }
@@ -131,22 +120,14 @@ impl Graph {
     pub fn count(&self) -> Result<Totals, Refusal>
         ensures { result ≡ count_answer self.now }
     {
-        self.check_formed()?;
-        let edges = ones_in(&self.edges) / 2;
-        let unknowns = ones_in(&self.unknowns) / 2;
-        let pairs = self.order * (self.order - 1) / 2;
-        Ok(Totals {
-            edges,
-            non_edges: pairs - edges - unknowns,
-            unknowns,
-        })
+        Ok(self.lend().formed()?.totals())
     }
 
     // How many edges vertex v has.
     pub fn count_at(&self, v: u32) -> Result<u32, Refusal>
         ensures { result ≡ degree_answer self.now v }
     {
-        self.check_formed()?;
+        self.lend().formed()?;
         check_vertex(self.order, v)?;
         Ok(ones_at(&self.edges, v))
     }
@@ -155,7 +136,7 @@ impl Graph {
     pub fn relabel(&self, p: [u8; 32]) -> Result<Graph, Refusal>
         ensures { result ≡ relabel_answer self.now p }
     {
-        self.check_formed()?;
+        self.lend().formed()?;
         let order = self.order;
         let starts = self.starts;
         check_permitted(order, starts, p)?;
@@ -217,7 +198,7 @@ fn check_permitted(order: u32, starts: u32, p: [u8; 32]) -> Result<(), Refusal>
 fn check_setting(graph: &Graph, i: u32, j: u32, value: u32) -> Result<(), Refusal>
     ensures { MatchResult result (λ _. (well_formed graph.now ≡ true) × (is_pair graph.now.order i j ≡ true) × (value ≤ 2)) (λ e. Err (unset e graph.now) ≡ set_answer graph.now i j value) }
 {
-    graph.check_formed()?;
+    graph.lend().formed()?;
     check_pair(graph.order, i, j)?;
     check_value(value)
 }
@@ -248,6 +229,23 @@ impl<'a> LentGraph<'a> {
             Ok(FormedGraph { graph: self })
         } else {
             Err(Refusal::Malformed)
+        }
+    }
+}
+
+impl FormedGraph<'_> {
+    // How many pairs are edges, non-edges and unknown.
+    fn totals(self) -> Totals
+        ensures { result ≡ totals_of (lent self.entry.graph) }
+    {
+        let LentGraph { order, rows, .. } = self.graph;
+        let edges = ones_in(rows.edges) / 2;
+        let unknowns = ones_in(rows.unknowns) / 2;
+        let pairs = order * (order - 1) / 2;
+        Totals {
+            edges,
+            non_edges: pairs - edges - unknowns,
+            unknowns,
         }
     }
 }

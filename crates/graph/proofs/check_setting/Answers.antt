@@ -4,9 +4,9 @@ use Rattle.graph.specs.Answers.{set_answer}
 use Rattle.graph.proofs.CodeAnswers.{value_failed}
 use Rattle.graph.proofs.check_setting.Goals as goal
 
-pub returns-in_err-check_formed : goal.returns-in_err-check_formed
+pub returns-in_err-formed : goal.returns-in_err-formed
 unfolding set_answer
-returns-in_err-check_formed c = search (refused, rules)
+returns-in_err-formed c = search (refused, rules)
 
 pub returns-in_err-check_pair : goal.returns-in_err-check_pair
 unfolding set_answer

@@ -5,9 +5,9 @@ use Rattle.graph.specs.Answers.{degree_answer}
 use Rattle.graph.proofs.CodeAnswers.{vertex_most, degree_is}
 use Rattle.graph.proofs.Graph.count_at.Goals as goal
 
-pub returns-in_err-check_formed : goal.returns-in_err-check_formed
+pub returns-in_err-formed : goal.returns-in_err-formed
 unfolding degree_answer
-returns-in_err-check_formed c = search (refused, rules)
+returns-in_err-formed c = search (refused, rules)
 
 pub returns-in_err-check_vertex : goal.returns-in_err-check_vertex
 unfolding degree_answer

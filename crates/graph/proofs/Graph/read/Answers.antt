@@ -5,9 +5,9 @@ use Rattle.graph.specs.Answers.{read_answer}
 use Rattle.graph.proofs.CodeAnswers.{row_most, column_most}
 use Rattle.graph.proofs.Graph.read.Goals as goal
 
-pub returns-in_err-check_formed : goal.returns-in_err-check_formed
+pub returns-in_err-formed : goal.returns-in_err-formed
 unfolding read_answer
-returns-in_err-check_formed c = search (refused, rules)
+returns-in_err-formed c = search (refused, rules)
 
 pub returns-in_err-check_pair : goal.returns-in_err-check_pair
 unfolding read_answer

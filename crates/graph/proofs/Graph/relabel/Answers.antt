@@ -4,9 +4,9 @@ use Rattle.graph.specs.Answers.{relabel_answer}
 use Rattle.graph.proofs.CodeAnswers.{order_high, permitted_reorders, relabelled_is}
 use Rattle.graph.proofs.Graph.relabel.Goals as goal
 
-pub returns-in_err-check_formed : goal.returns-in_err-check_formed
+pub returns-in_err-formed : goal.returns-in_err-formed
 unfolding relabel_answer
-returns-in_err-check_formed c = search (refused, rules)
+returns-in_err-formed c = search (refused, rules)
 
 pub check_permitted-requires : goal.check_permitted-requires
 check_permitted-requires c = search (order_high, rules)
