@@ -6,4 +6,5 @@
 pub mod before;
 pub mod next;
 pub mod path;
+pub mod turn;
 pub mod walked;

@@ -1,4 +1,4 @@
-// What a pair does under a path. An answer is 0 where the walk goes on, 1 where it loses, 2 where it wins.
+// What a pair does under a path.
 ghost use Rattle.std.specs.Prelude.{◌≡◌, not, ◌-◌, ◌^◌, ◌≤◌, ◌<◌};
 ghost use Rattle.laws.specs.Bit.{bit};
 ghost use Rattle.words.specs.Placed.{row};
@@ -6,11 +6,21 @@ ghost use Rattle.arrangements.specs.Arrangement.{at};
 ghost use Rattle.pairs.specs.Pairs.{pair};
 ghost use Rattle.plain.specs.Plain.{same_pair, pair_of_two};
 ghost use Rattle.plain.specs.Before.{before_in};
+ghost use Rattle.turns.specs.Turn.{code_of};
 ghost use Rattle.turns.specs.Turns.{count_by, turn_by, turn_of, turn_at, Places};
 
 use crate::before::comes_before;
+use crate::turn::Turn;
 use arrangements::places::vertex_at;
-use words::{power, without};
+use words::turned::Rows;
+
+// A path through a graph: the graph's rows, the vertex at each place, and the place of each vertex.
+#[derive(Clone, Copy)]
+pub struct Path<'a> {
+    pub rows: Rows<'a>,
+    pub vertices: &'a [u8; 32],
+    pub places: &'a [u8; 32],
+}
 
 // Row i of the rows.
 pub fn row_of(rows: &[u32; 32], i: u32) -> u32
@@ -68,37 +78,37 @@ pub fn count_there(mode: u32, marks: u32, hidden: u32, i: u32, j: u32, u: u32, v
 }
 
 // What the pair (i, j) does where u and v stand there, its entry counts as a and that of its image as b.
-pub fn turn_by(a: u32, b: u32, i: u32, j: u32, u: u32, v: u32) -> u32
-    ensures { result ≡ turn_by a b (same_pair (pair_of_two u v) (pair i j)) }
+pub fn turn_by(a: u32, b: u32, i: u32, j: u32, u: u32, v: u32) -> Turn
+    ensures { code_of result ≡ turn_by a b (same_pair (pair_of_two u v) (pair i j)) }
 {
     if a == b {
-        return 0;
+        return Turn::Open;
     }
     if a == 1 {
-        return 2;
+        return Turn::Won;
     }
     if is_own(i, j, u, v) {
-        return 0;
+        return Turn::Open;
     }
-    1
+    Turn::Lost
 }
 
 // The same by a bit of each word.
-pub fn bits_turn(ones: u32, marks: u32, i: u32, j: u32, u: u32, v: u32) -> u32
+pub fn bits_turn(ones: u32, marks: u32, i: u32, j: u32, u: u32, v: u32) -> Turn
     requires { (1 ≤ j) × (j ≤ 32) × (1 ≤ v) × (v ≤ 32) }
-    ensures { result ≡ turn_by (bit ones (j - 1)) (bit marks (v - 1)) (same_pair (pair_of_two u v) (pair i j)) }
+    ensures { code_of result ≡ turn_by (bit ones (j - 1)) (bit marks (v - 1)) (same_pair (pair_of_two u v) (pair i j)) }
 {
     let a = ones >> (j - 1);
     if (a ^ (marks >> (v - 1))) % 2 == 0 {
-        return 0;
+        return Turn::Open;
     }
     if a % 2 == 1 {
-        return 2;
+        return Turn::Won;
     }
     if is_own(i, j, u, v) {
-        return 0;
+        return Turn::Open;
     }
-    1
+    Turn::Lost
 }
 
 // The same by the edges and unknowns of row i and of row u.
@@ -113,9 +123,9 @@ fn turn_of<'a>(
     j: u32,
     u: u32,
     v: u32,
-) -> u32
+) -> Turn
     requires { (1 ≤ i) × (i ≤ 32) × (1 ≤ j) × (j ≤ 32) × (1 ≤ at places.now i) × (1 ≤ at places.now j) × (1 ≤ u) × (1 ≤ v) × (v ≤ 32) }
-    ensures { result ≡ turn_of (before_in mode) ones doubts marks hidden i j u v (at places.now i) (at places.now j) }
+    ensures { code_of result ≡ turn_of (before_in mode) ones doubts marks hidden i j u v (at places.now i) (at places.now j) }
 {
     let a = count_here(mode, ones, doubts, places, i, j);
     let b = count_there(mode, marks, hidden, i, j, u, v);
@@ -123,24 +133,20 @@ fn turn_of<'a>(
 }
 
 // What the pair (i, j) does under the path.
-pub fn pair_turn<'a>(
-    mode: u32,
-    edges: &'a [u32; 32],
-    unknowns: &'a [u32; 32],
-    path: &'a [u8; 32],
-    places: &'a [u8; 32],
-    n: u32,
-    i: u32,
-    j: u32,
-) -> u32
-    requires { (n ≤ 32) × Places n path.now places.now × (1 ≤ i) × (i < j) × (j ≤ n) }
-    ensures { result ≡ turn_at (before_in mode) edges.now unknowns.now path.now places.now (pair i j) }
+pub fn pair_turn(mode: u32, path: Path, n: u32, i: u32, j: u32) -> Turn
+    requires { (n ≤ 32) × Places n path.vertices.now path.places.now × (1 ≤ i) × (i < j) × (j ≤ n) }
+    ensures { code_of result ≡ turn_at (before_in mode) path.entry.rows.edges.now path.entry.rows.unknowns.now path.entry.vertices.now path.entry.places.now (pair i j) }
 {
-    let u = vertex_at(path, i);
-    let v = vertex_at(path, j);
-    let ones = row_of(edges, i);
-    let doubts = row_of(unknowns, i);
-    let marks = row_of(edges, u);
-    let hidden = row_of(unknowns, u);
+    let Path {
+        rows,
+        vertices,
+        places,
+    } = path;
+    let u = vertex_at(vertices, i);
+    let v = vertex_at(vertices, j);
+    let ones = row_of(rows.edges, i);
+    let doubts = row_of(rows.unknowns, i);
+    let marks = row_of(rows.edges, u);
+    let hidden = row_of(rows.unknowns, u);
     turn_of(mode, ones, doubts, marks, hidden, places, i, j, u, v)
 }
