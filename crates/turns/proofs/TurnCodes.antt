@@ -4,6 +4,7 @@ use native.Mathlib.Omega.{arith}
 use mathlib.Core.Path.{◌≡◌, refl, sym, ap, ◌∙◌}
 use mathlib.Core.Bool.{Bool, true, false, not}
 use lib.Dec.{eqb, ltb}
+use borrow.Author.Tests.{eqb-true, eqb-false}
 use Rattle.laws.specs.Test.{both, either, pick}
 use Rattle.laws.specs.Bit.{bit}
 use Rattle.laws.specs.BitLaws.{bit_small}
@@ -19,6 +20,14 @@ use Rattle.plain.specs.Plain.{same_pair, pair_of_two}
 use Rattle.plain.proofs.Plain.{same_pair_tells}
 use Rattle.turns.specs.Turns.{count_by, turn_by, turn_of}
 use Rattle.judging.proofs.Arrangements.{entry_of_two}
+
+-- what the code's test of a turn tells, where c is its number
+module _ (c : ℕ) (r : Bool) (e : r ≡ eqb c 0) where
+  pub is_open : r ≡ true → c ≡ 0
+  is_open h = eqb-true c 0 (sym e ∙ h)
+
+  pub not_open : r ≡ false → c ≡ 0 → ⊥
+  not_open h = eqb-false c 0 (sym e ∙ h)
 
 -- a move by number
 unfoldable pub code_of : Move → ℕ

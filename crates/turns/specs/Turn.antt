@@ -3,7 +3,7 @@ use Rattle.std.specs.Prelude.{ℕ}
 use Rattle.turns.specs.declared.turn.Turn.{Turn}
 use Rattle.turns.specs.declared.turn.Turn.TheVariants.{Open, Lost, Won}
 
-abbrev pub code_of : Turn → ℕ
-code_of Open = 0
-code_of Lost = 1
-code_of Won = 2
+abbrev pub turn_code : Turn → ℕ
+turn_code Open = 0
+turn_code Lost = 1
+turn_code Won = 2

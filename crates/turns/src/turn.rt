@@ -1,6 +1,6 @@
 // What a pair does in a walk, and what a walk comes to.
 ghost use Rattle.std.specs.Prelude.{◌≡◌, eqb};
-ghost use Rattle.turns.specs.Turn.{code_of};
+ghost use Rattle.turns.specs.Turn.{turn_code};
 
 // It goes on, or is open at its end; it loses, or is not won; it wins.
 #[derive(Clone, Copy)]
@@ -13,14 +13,14 @@ pub enum Turn {
 impl Turn {
     // Does it go on?
     pub fn is_open(self) -> bool
-        ensures { result ≡ eqb (code_of self) 0 }
+        ensures { result ≡ eqb (turn_code self) 0 }
     {
         matches!(self, Turn::Open)
     }
 
     // Is it won?
     pub fn is_won(self) -> bool
-        ensures { result ≡ eqb (code_of self) 2 }
+        ensures { result ≡ eqb (turn_code self) 2 }
     {
         matches!(self, Turn::Won)
     }

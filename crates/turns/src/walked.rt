@@ -6,7 +6,7 @@ ghost use Rattle.arrangements.specs.Arrangement.{at};
 ghost use Rattle.pairs.specs.Pairs.{pair};
 ghost use Rattle.plain.specs.Plain.{same_pair, pair_of_two};
 ghost use Rattle.plain.specs.Before.{before_in};
-ghost use Rattle.turns.specs.Turn.{code_of};
+ghost use Rattle.turns.specs.Turn.{turn_code};
 ghost use Rattle.turns.specs.Turns.{count_by, turn_by, turn_of, turn_at, Places};
 
 use crate::before::comes_before;
@@ -79,7 +79,7 @@ pub fn count_there(mode: u32, marks: u32, hidden: u32, i: u32, j: u32, u: u32, v
 
 // What the pair (i, j) does where u and v stand there, its entry counts as a and that of its image as b.
 pub fn turn_by(a: u32, b: u32, i: u32, j: u32, u: u32, v: u32) -> Turn
-    ensures { code_of result ≡ turn_by a b (same_pair (pair_of_two u v) (pair i j)) }
+    ensures { turn_code result ≡ turn_by a b (same_pair (pair_of_two u v) (pair i j)) }
 {
     if a == b {
         return Turn::Open;
@@ -96,7 +96,7 @@ pub fn turn_by(a: u32, b: u32, i: u32, j: u32, u: u32, v: u32) -> Turn
 // The same by a bit of each word.
 pub fn bits_turn(ones: u32, marks: u32, i: u32, j: u32, u: u32, v: u32) -> Turn
     requires { (1 ≤ j) × (j ≤ 32) × (1 ≤ v) × (v ≤ 32) }
-    ensures { code_of result ≡ turn_by (bit ones (j - 1)) (bit marks (v - 1)) (same_pair (pair_of_two u v) (pair i j)) }
+    ensures { turn_code result ≡ turn_by (bit ones (j - 1)) (bit marks (v - 1)) (same_pair (pair_of_two u v) (pair i j)) }
 {
     let a = ones >> (j - 1);
     if (a ^ (marks >> (v - 1))) % 2 == 0 {
@@ -125,7 +125,7 @@ fn turn_of<'a>(
     v: u32,
 ) -> Turn
     requires { (1 ≤ i) × (i ≤ 32) × (1 ≤ j) × (j ≤ 32) × (1 ≤ at places.now i) × (1 ≤ at places.now j) × (1 ≤ u) × (1 ≤ v) × (v ≤ 32) }
-    ensures { code_of result ≡ turn_of (before_in mode) ones doubts marks hidden i j u v (at places.now i) (at places.now j) }
+    ensures { turn_code result ≡ turn_of (before_in mode) ones doubts marks hidden i j u v (at places.now i) (at places.now j) }
 {
     let a = count_here(mode, ones, doubts, places, i, j);
     let b = count_there(mode, marks, hidden, i, j, u, v);
@@ -135,7 +135,7 @@ fn turn_of<'a>(
 // What the pair (i, j) does under the path.
 pub fn pair_turn(mode: u32, path: Path, n: u32, i: u32, j: u32) -> Turn
     requires { (n ≤ 32) × Places n path.vertices.now path.places.now × (1 ≤ i) × (i < j) × (j ≤ n) }
-    ensures { code_of result ≡ turn_at (before_in mode) path.entry.rows.edges.now path.entry.rows.unknowns.now path.entry.vertices.now path.entry.places.now (pair i j) }
+    ensures { turn_code result ≡ turn_at (before_in mode) path.entry.rows.edges.now path.entry.rows.unknowns.now path.entry.vertices.now path.entry.places.now (pair i j) }
 {
     let Path {
         rows,

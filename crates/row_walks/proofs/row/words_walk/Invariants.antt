@@ -6,7 +6,4 @@ use Rattle.row_walks.specs.RowWords.{turn_with}
 use Rattle.row_walks.proofs.row.words_walk.Given as goal
 
 abbrev pub invariant-loop-j : goal.invariant-loop-j
-invariant-loop-j l = (l.i < l.j) × (l.j ≤ l.n + 1) × (walk_code (turn_with l.ones l.marks l.path) (along_row l.i l.j (l.n + 1 - l.j)) ≡ walk_code (turn_with l.ones l.marks l.path) (along_row l.i (l.i + 1) (l.n + 1 - (l.i + 1))))
-
-abbrev pub decreases-loop-j : goal.decreases-loop-j
-decreases-loop-j l = l.n + 1 - l.j
+invariant-loop-j l = (l.i < l.j) × (l.j ≤ l.n + 1) × (walk_code (turn_with l.ones l.marks l.vertices) (along_row l.i l.j (l.n + 1 - l.j)) ≡ walk_code (turn_with l.ones l.marks l.vertices) (along_row l.i (l.i + 1) (l.n + 1 - (l.i + 1))))
