@@ -18,9 +18,16 @@ use Rattle.stops.specs.Tried.{tried_by}
 use Rattle.stops.proofs.StopLaws.{ByStop}
 
 -- at a stop
-pub tried_stop : (p : List ℕ) (stop used k n rows first ones doubts one : ℕ) → stop ≡ 1 → first ≡ at p 1 → one ≡ one_at ones doubts used first k → one + 1 ≡ tried_by stop (one_at ones doubts used (at p 1) k) rows k n
+tried_stop : (p : List ℕ) (stop used k n rows first ones doubts one : ℕ) → stop ≡ 1 → first ≡ at p 1 → one ≡ one_at ones doubts used first k → one + 1 ≡ tried_by stop (one_at ones doubts used (at p 1) k) rows k n
 unfolding tried_by pick
 tried_stop p stop used k n rows first ones doubts one s pf h = rw (eq-eqb stop 1 s) (ap (λ (x : ℕ). x + 1) (h ∙ rw pf))
+
+module _ (p : List ℕ) (stop used k n rows first ones doubts one : ℕ) (s : stop ≡ 1) (pf : first ≡ at p 1) (h : one ≡ one_at ones doubts used first k) where
+  pub stop_won : one ≡ 1 → 2 ≡ tried_by stop (one_at ones doubts used (at p 1) k) rows k n
+  stop_won e = let c : 2 ≡ one + 1 = omega arith in c ∙ tried_stop p stop used k n rows first ones doubts one s pf h
+
+  pub stop_lost : one ≤ 1 → (one ≡ 1 → ⊥) → 1 ≡ tried_by stop (one_at ones doubts used (at p 1) k) rows k n
+  stop_lost l d = let c : 1 ≡ one + 1 = omega arith in c ∙ tried_stop p stop used k n rows first ones doubts one s pf h
 
 module _ (stop one rows k n : ℕ) (d : stop ≡ 1 → ⊥) where
   -- elsewhere, with places left

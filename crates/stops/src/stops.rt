@@ -3,6 +3,7 @@ ghost use Rattle.std.specs.Prelude.{◌≡◌, ◌+◌, ◌≤◌, ◌<◌, leng
 ghost use Rattle.stops.specs.Stops.{own_mask, passed_mask, marks_at, one_at, stops_by, Made, Stopped};
 
 use turns::walked::row_of;
+use words::turned::Rows;
 use words::{power, without};
 
 // The vertex that makes (1, k) its own image.
@@ -79,52 +80,41 @@ fn stops_of(ones: u32, doubts: u32, marks: u32, hidden: u32, used: u32, u: u32, 
 }
 
 // Makes the stops of every place, where u is the first vertex and alone in use.
-fn first_stops<'a, 'b>(
-    edges: &'a [u32; 32],
-    unknowns: &'a [u32; 32],
-    n: u32,
-    used: u32,
-    u: u32,
-    stops: &'b mut [u32; 32],
-)
+fn first_stops(rows: Rows, n: u32, used: u32, u: u32, stops: &mut [u32; 32])
     requires { (n ≤ 32) × (1 ≤ u) × (u ≤ 32) × (length stops.old ≡ 32) × (get_or stops.old 0 0 ≡ 0) }
-    ensures { Made edges.now unknowns.now used u n stops.new }
+    ensures { Made rows.entry.edges.now rows.entry.unknowns.now used u n stops.new }
 {
-    let ones = row_of(edges, 1);
-    let doubts = row_of(unknowns, 1);
-    let marks = row_of(edges, u);
-    let hidden = row_of(unknowns, u);
-    let mut i = 1;
-    while i < n {
-        let at = i as usize;
-        stops[at] = stops_of(ones, doubts, marks, hidden, used, u, i + 1);
-        i += 1;
+    let ones = row_of(rows.edges, 1);
+    let doubts = row_of(rows.unknowns, 1);
+    let marks = row_of(rows.edges, u);
+    let hidden = row_of(rows.unknowns, u);
+    for i in 1..n {
+        stops[i as usize] = stops_of(ones, doubts, marks, hidden, used, u, i + 1);
     }
 }
 
 // Makes the stops that are needed after a vertex is chosen at a depth.
-pub fn set_stops<'a, 'b>(
-    edges: &'a [u32; 32],
-    unknowns: &'a [u32; 32],
+pub fn set_stops(
+    rows: Rows,
     n: u32,
     depth: usize,
     used: u32,
     u: u32,
-    stops: &'b mut [u32; 32],
+    stops: &mut [u32; 32],
 )
     requires { (n ≤ 32) × (depth + 1 < n) × (1 ≤ u) × (u ≤ 32) × (length stops.old ≡ 32) × (get_or stops.old 0 0 ≡ 0) }
-    ensures { Stopped edges.now unknowns.now n depth used u stops.old stops.new × (length stops.new ≡ 32) }
+    ensures { Stopped rows.entry.edges.now rows.entry.unknowns.now n depth used u stops.old stops.new × (length stops.new ≡ 32) }
 {
     if depth == 0 {
-        first_stops(edges, unknowns, n, used, u, stops);
+        first_stops(rows, n, used, u, stops);
         return;
     }
     let next = depth + 1;
-    let doubts = row_of(unknowns, 1);
+    let doubts = row_of(rows.unknowns, 1);
     if (doubts >> next as u32) % 2 == 1 {
-        let ones = row_of(edges, 1);
-        let marks = row_of(edges, u);
-        let hidden = row_of(unknowns, u);
+        let ones = row_of(rows.edges, 1);
+        let marks = row_of(rows.edges, u);
+        let hidden = row_of(rows.unknowns, u);
         stops[next] = stops_of(ones, doubts, marks, hidden, used, u, next as u32 + 1);
     }
 }

@@ -29,6 +29,13 @@ module _ (c : ℕ) (r : Bool) (e : r ≡ eqb c 0) where
   pub not_open : r ≡ false → c ≡ 0 → ⊥
   not_open h = eqb-false c 0 (sym e ∙ h)
 
+module _ (c : ℕ) (r : Bool) (e : r ≡ eqb c 2) where
+  pub is_won : r ≡ true → c ≡ 2
+  is_won h = eqb-true c 2 (sym e ∙ h)
+
+  pub not_won : r ≡ false → c ≡ 2 → ⊥
+  not_won h = eqb-false c 2 (sym e ∙ h)
+
 -- a move by number
 unfoldable pub code_of : Move → ℕ
 code_of skips = 0

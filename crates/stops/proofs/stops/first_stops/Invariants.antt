@@ -3,7 +3,4 @@ use Rattle.stops.specs.Stops.{Made}
 use Rattle.stops.proofs.stops.first_stops.Given as goal
 
 abbrev pub invariant-loop-i : goal.invariant-loop-i
-invariant-loop-i l = (1 ≤ l.i) × Made l.edges l.unknowns l.used l.u l.i l.stops
-
-abbrev pub decreases-loop-i : goal.decreases-loop-i
-decreases-loop-i l = l.n - l.i
+invariant-loop-i l = (1 ≤ l.i) × Made l.rows.edges.now l.rows.unknowns.now l.used l.u l.i l.stops
