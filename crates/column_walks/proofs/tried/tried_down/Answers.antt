@@ -1,15 +1,16 @@
 use borrow.Author.Rules.{rules}
 use Rattle.column_walks.proofs.CodeColumns.{tried_short, last_open, last_ended, last_within}
+use Rattle.turns.proofs.TurnCodes.{is_open, not_open}
 use Rattle.column_walks.proofs.tried.tried_down.Goals as goal
 
 pub returns-then-k-n : goal.returns-then-k-n
 returns-then-k-n c = search (tried_short, rules)
 
-pub column_walk-code-requires : goal.column_walk-code-requires
-column_walk-code-requires c = (search rules, search rules, search last_within)
+pub column_walk-turn-requires : goal.column_walk-turn-requires
+column_walk-turn-requires c = (search rules, search rules, search last_within)
 
-pub returns-then-code-eq0 : goal.returns-then-code-eq0
-returns-then-code-eq0 c = search (last_open, rules)
+pub returns-then-is_open : goal.returns-then-is_open
+returns-then-is_open c = search (last_open, is_open _ _ c.is_open.ensures c.if-is_open.true, rules)
 
 pub returns : goal.returns
-returns c = search (last_ended, rules)
+returns c = search (last_ended, not_open _ _ c.is_open.ensures c.if-is_open.false, rules)
