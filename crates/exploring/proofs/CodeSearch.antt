@@ -20,7 +20,6 @@ use Rattle.pairs.specs.Columns.{down_column}
 use Rattle.plain.specs.Before.{row_before}
 use Rattle.graph.specs.WellFormed.{well_formed}
 use Rattle.graph.proofs.Formed.{formed}
-use Rattle.exploring.specs.declared.explore.Explored.{Explored}
 use Rattle.judging.specs.Judging.{judged, found}
 use Rattle.arrangements.specs.Arrangement.{at}
 use Rattle.turns.specs.Turns.{Within, Places, turn_at, walk_code}
@@ -29,7 +28,6 @@ use Rattle.stops.specs.Tried.{tried_by}
 use Rattle.stops.proofs.CodeTried.{Judges}
 use Rattle.column_walks.specs.Columns.{turn_in_column, tried_down}
 use Rattle.graph.specs.Graph.{graph_of}
-use Rattle.exploring.specs.Found.{found_by}
 use Rattle.exploring.proofs.Searching.{Searching, path_vertex, over, climbed, used_within}
 use Rattle.exploring.proofs.Choosing.{Choosing, place_fits_lem, weight_within, weight_used, cut_short}
 use Rattle.exploring.proofs.Trying.{Trying, next_within, next_places, next_vertex}
@@ -38,21 +36,6 @@ use Rattle.exploring.proofs.NextTurn.{won_found, lost_stays, full_stays, deepene
 
 pub order_bounded : (n : ℕ) (e u : List ℕ) (s : ℕ) → well_formed (graph_of n e u s) ≡ true → n ≤ 32
 order_bounded n e u s h = (formed (graph_of n e u s) h).order_high
-
--- ---- what an ended search tells
-
-module _ (r : Explored) (p : List ℕ) (f : Found) where
-  told_none : r.kind ≡ 0 → (steps : ℕ) → r.steps ≡ steps → none steps ≡ f → found_by r p ≡ f
-  unfolding found_by pick
-  told_none k steps c h = rw (k, c) h
-
-  told_cut : r.kind ≡ 2 → cut ≡ f → found_by r p ≡ f
-  unfolding found_by pick
-  told_cut k h = rw k h
-
-  told_first : r.kind ≡ 1 → (steps depth : ℕ) → r.steps ≡ steps → r.depth ≡ depth → first (take depth p) steps ≡ f → found_by r p ≡ f
-  unfolding found_by pick
-  told_first k steps depth c d h = rw (k, c, d) h
 
 -- ---- at each turn
 
@@ -64,8 +47,8 @@ module _ {mode n : ℕ} {e u : List ℕ} {b budget : ℕ} {blocks path₀ path u
 
   -- ---- nothing is left at this depth
 
-  pub ends_none : left ≡ 0 → depth ≡ 0 → (r : Explored) → r.kind ≡ 0 → r.steps ≡ steps → found_by r path ≡ found mode (graph_of n e u b) budget
-  ends_none z h r k c = told_none r path (found mode (graph_of n e u b) budget) k steps c (over s z h)
+  pub ends_none : left ≡ 0 → depth ≡ 0 → none steps ≡ found mode (graph_of n e u b) budget
+  ends_none z h = over s z h
 
   module _ (some : depth ≢ 0) where
     pub last_low : 1 ≤ get_or path (depth - 1) 0
@@ -84,8 +67,8 @@ module _ {mode n : ℕ} {e u : List ℕ} {b budget : ℕ} {blocks path₀ path u
   -- ---- the lowest untried vertex is tried
 
   module _ (some : left ≢ 0) where
-    pub ends_cut : steps ≡ budget → (r : Explored) → r.kind ≡ 2 → found_by r path ≡ found mode (graph_of n e u b) budget
-    ends_cut h r k = told_cut r path (found mode (graph_of n e u b) budget) k (cut_short (record { state = s; some = some; lowest = refl }) h)
+    pub ends_cut : steps ≡ budget → cut ≡ found mode (graph_of n e u b) budget
+    ends_cut h = cut_short (record { state = s; some = some; lowest = refl }) h
 
     module _ (t : ℕ) (q : t ≡ count_trailing_zeros 32 left) where
       chosen : Choosing mode (graph_of n e u b) budget blocks path₀ path untried stops places left used depth steps t
@@ -130,12 +113,12 @@ module _ {mode n : ℕ} {e u : List ℕ} {b budget : ℕ} {blocks path₀ path u
   judges ones doubts w with code po pd pw pm c = let one_more : depth + 1 ≡ suc depth = omega arith in rw (c, one_more, po, pd, pm, pw) (judges_tried y)
 
   module _ (unspent : steps ≢ budget) {code : ℕ} (j : Judges n (judged mode (graph_of n e u b) (take depth path ++ (suc t ∷ []))) (suc depth) code) where
-    pub ends_won : code ≡ 2 → (x : Explored) → x.kind ≡ 1 → x.steps ≡ steps + 1 → x.depth ≡ depth + 1 → found_by x next ≡ found mode (graph_of n e u b) budget
-    ends_won h x i k l = told_first x next (found mode (graph_of n e u b) budget) i (steps + 1) (depth + 1) k l (won_found y unspent (j.wins h))
+    pub ends_won : code ≡ 2 → first (take (depth + 1) next) (steps + 1) ≡ found mode (graph_of n e u b) budget
+    ends_won h = won_found y unspent (j.wins h)
 
     module _ (w : ℕ) (k : w ≡ 2 ^ t) where
-      pub tries_on : code ≢ 2 → code ≢ 0 → Searching mode (graph_of n e u b) budget blocks path₀ next untried stops there (left - w) used depth (steps + 1)
-      tries_on h z = rw k (by_end (j.stays h z))
+      pub tries_on : code ≡ 1 → Searching mode (graph_of n e u b) budget blocks path₀ next untried stops there (left - w) used depth (steps + 1)
+      tries_on h = rw k (by_end (j.stays (λ q. omega (arith, h, q)) (λ q. omega (arith, h, q))))
         where
           by_end : (judged mode (graph_of n e u b) longer ≡ lost) ⊎ ((n ≤ suc depth) × (judged mode (graph_of n e u b) longer ≢ won))
               → Searching mode (graph_of n e u b) budget blocks path₀ next untried stops there (left - 2 ^ t) used depth (steps + 1)

@@ -1,9 +1,17 @@
--- How a search ended, by numbers.
-use Rattle.std.specs.Prelude.{ℕ, List, take, eqb}
-use Rattle.laws.specs.Test.{pick}
+-- What an ended search has found.
+use Rattle.std.specs.Prelude.{ℕ, List, take}
 use Rattle.beginnings.specs.Search.{Found, cut, none, first}
 use Rattle.exploring.specs.declared.explore.Explored.{Explored}
+use Rattle.exploring.specs.declared.explore.Explored.TheVariants.{Nothing, Won, Cut}
 
--- what an ended search has found, where p is its path
-unfoldable pub found_by : Explored → List ℕ → Found
-found_by e p = pick (eqb e.kind 0) (none e.steps) (pick (eqb e.kind 1) (first (take e.depth p) e.steps) cut)
+-- what it has found, where p is its path
+abbrev pub found_by : Explored → List ℕ → Found
+found_by (Nothing steps) p = none steps
+found_by (Won steps depth) p = first (take depth p) steps
+found_by Cut p = cut
+
+-- how long the won beginning is, or 0
+abbrev pub depth_of : Explored → ℕ
+depth_of (Nothing steps) = 0
+depth_of (Won steps depth) = depth
+depth_of Cut = 0

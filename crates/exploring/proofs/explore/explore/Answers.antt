@@ -1,5 +1,6 @@
 use borrow.Author.Rules.{rules}
-use mathlib.Core.Path.{refl}
+use mathlib.Core.Path.{refl, ap}
+use Rattle.turns.specs.Turn.{turn_code}
 use Rattle.graph.proofs.Formed.{formed}
 use Rattle.exploring.proofs.Searching.{begins}
 use Rattle.exploring.proofs.Trying.{next_kept}
@@ -39,14 +40,14 @@ stored-requires c = search (low_place, rules)
 pub bounds-places-v : goal.bounds-places-v
 bounds-places-v c = search (low_place, rules)
 
-pub tried_in-code-requires : goal.tried_in-code-requires
-tried_in-code-requires c = (search rules, search low_place, search rules, search rules, search longer_within, search longer_places)
+pub tried_in-requires : goal.tried_in-requires
+tried_in-requires c = (search rules, search low_place, search rules, search rules, search longer_within, search longer_places)
 
-pub returns-then-code-eq2 : goal.returns-then-code-eq2
-returns-then-code-eq2 c =
+pub returns-in-Won : goal.returns-in-Won
+returns-in-Won c =
     let y = tries c.loop-left.invariant c.if-left-eq0.false _ c.lowest-v.ensures _ c.stored.ensures _ c.stored-else-left-eq0.ensures in
-    let j = judges y _ _ _ _ _ c.row_of-ones.ensures c.row_of-doubts.ensures c.power-weight.ensures.0 refl c.tried_in-code.ensures in (
-      ends_won y c.if-steps-budget.false j c.if-code-eq2.true c.ended-then-code-eq2.result c.ended-then-code-eq2.ensures.0 c.ended-then-code-eq2.ensures.1 c.ended-then-code-eq2.ensures.2,
+    let j = judges y _ _ _ _ _ c.row_of-ones.ensures c.row_of-doubts.ensures c.power-weight.ensures.0 refl c.tried_in.ensures in (
+      ends_won y c.if-steps-budget.false j (ap turn_code c.in-Won.is),
       next_kept y,
       search rules,
     )
@@ -54,9 +55,9 @@ returns-then-code-eq2 c =
 pub renew_stops-requires : goal.renew_stops-requires
 renew_stops-requires c =
     let y = tries c.loop-left.invariant c.if-left-eq0.false _ c.lowest-v.ensures _ c.stored.ensures _ c.stored-else-left-eq0.ensures in
-    let j = judges y _ _ _ _ _ c.row_of-ones.ensures c.row_of-doubts.ensures c.power-weight.ensures.0 refl c.tried_in-code.ensures in (
+    let j = judges y _ _ _ _ _ c.row_of-ones.ensures c.row_of-doubts.ensures c.power-weight.ensures.0 refl c.tried_in.ensures in (
       search rules,
-      room_deeper y c.if-steps-budget.false j c.if-code-eq0.true,
+      room_deeper y c.if-steps-budget.false j (ap turn_code c.in-Open.is),
       first_low y _ c.vertex_at.ensures.0,
       first_high y _ c.vertex_at.ensures.0,
       search rules,
@@ -66,18 +67,18 @@ renew_stops-requires c =
 pub bounds-blocks-depth : goal.bounds-blocks-depth
 bounds-blocks-depth c =
     let y = tries c.loop-left.invariant c.if-left-eq0.false _ c.lowest-v.ensures _ c.stored.ensures _ c.stored-else-left-eq0.ensures in
-    let j = judges y _ _ _ _ _ c.row_of-ones.ensures c.row_of-doubts.ensures c.power-weight.ensures.0 refl c.tried_in-code.ensures in
-    next_fits y c.if-steps-budget.false j c.if-code-eq0.true
-
-pub loop-left-preserved-then-code-eq0 : goal.loop-left-preserved-then-code-eq0
-loop-left-preserved-then-code-eq0 c =
-    let y = tries c.loop-left.invariant c.if-left-eq0.false _ c.lowest-v.ensures _ c.stored.ensures _ c.stored-else-left-eq0.ensures in
-    let j = judges y _ _ _ _ _ c.row_of-ones.ensures c.row_of-doubts.ensures c.power-weight.ensures.0 refl c.tried_in-code.ensures in
-    goes_deeper y c.if-steps-budget.false j _ c.power-weight.ensures.0 c.if-code-eq0.true _ _ c.vertex_at.ensures.0
-    c.renew_stops.ensures.0 c.renew_stops.ensures.1 _ c.without-left.ensures
+    let j = judges y _ _ _ _ _ c.row_of-ones.ensures c.row_of-doubts.ensures c.power-weight.ensures.0 refl c.tried_in.ensures in
+    next_fits y c.if-steps-budget.false j (ap turn_code c.in-Open.is)
 
 pub loop-left-preserved : goal.loop-left-preserved
 loop-left-preserved c =
     let y = tries c.loop-left.invariant c.if-left-eq0.false _ c.lowest-v.ensures _ c.stored.ensures _ c.stored-else-left-eq0.ensures in
-    let j = judges y _ _ _ _ _ c.row_of-ones.ensures c.row_of-doubts.ensures c.power-weight.ensures.0 refl c.tried_in-code.ensures in
-    tries_on y c.if-steps-budget.false j _ c.power-weight.ensures.0 c.if-code-eq2.false c.if-code-eq0.false
+    let j = judges y _ _ _ _ _ c.row_of-ones.ensures c.row_of-doubts.ensures c.power-weight.ensures.0 refl c.tried_in.ensures in
+    goes_deeper y c.if-steps-budget.false j _ c.power-weight.ensures.0 (ap turn_code c.in-Open.is) _ _ c.vertex_at.ensures.0
+    c.renew_stops.ensures.0 c.renew_stops.ensures.1 _ c.without-left.ensures
+
+pub loop-left-preserved-in-Lost : goal.loop-left-preserved-in-Lost
+loop-left-preserved-in-Lost c =
+    let y = tries c.loop-left.invariant c.if-left-eq0.false _ c.lowest-v.ensures _ c.stored.ensures _ c.stored-else-left-eq0.ensures in
+    let j = judges y _ _ _ _ _ c.row_of-ones.ensures c.row_of-doubts.ensures c.power-weight.ensures.0 refl c.tried_in.ensures in
+    tries_on y c.if-steps-budget.false j _ c.power-weight.ensures.0 (ap turn_code c.in-Lost.is)
