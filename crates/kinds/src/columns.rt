@@ -7,21 +7,21 @@ ghost use Rattle.plain.specs.Before.{row_before, column_before, before_in};
 ghost use Rattle.turns.specs.Turns.{Within};
 ghost use Rattle.kinds.specs.Kinds.{kind_at, place_before, FirstIn, MaskedBy, Firsts, SourcesBy, Ahead};
 
+use crate::kind::Win;
 use arrangements::places::vertex_of;
+use turns::next::Spot;
 use turns::path::weight_of;
-use turns::walked::row_of;
+use turns::walked::{Path, row_of};
 use words::without;
 
 // The vertices at the first places of the path.
-fn first_places(path: &[u8; 32], upto: u32) -> u32
-    requires { (upto ≤ 32) × Within upto path.now }
-    ensures { FirstIn upto path.now result }
+fn first_places(vertices: &[u8; 32], upto: u32) -> u32
+    requires { (upto ≤ 32) × Within upto vertices.now }
+    ensures { FirstIn upto vertices.now result }
 {
-    let mut mask = 0u32;
-    let mut i = 0usize;
-    while i < upto as usize {
-        mask = mask | weight_of(path[i]);
-        i += 1;
+    let mut mask = 0;
+    for i in 0..upto as usize {
+        mask |= weight_of(vertices[i]);
     }
     mask
 }
@@ -46,14 +46,17 @@ pub struct Masks {
 }
 
 // These masks for the winning pair (row, column).
-pub fn masks_of(path: &[u8; 32], mode: u32, n: u32, row: u32, column: u32) -> Masks
-    requires { (n ≤ 32) × Reordering n path.now × (1 ≤ row) × (row < column) × (column ≤ n) }
-    ensures { MaskedBy mode n row column (inverse n path.now) result.less result.at result.up }
+pub fn masks_of(win: Win) -> Masks
+    requires { (win.order ≤ 32) × Reordering win.order win.path.vertices.now × (1 ≤ win.at.row) × (win.at.row < win.at.column) × (win.at.column ≤ win.order) }
+    ensures { MaskedBy win.entry.mode win.entry.order win.entry.at.row win.entry.at.column (inverse win.entry.order win.entry.path.vertices.now) result.less result.at result.up }
 {
-    let less = first_places(path, place_before(mode, row, column));
-    let at = first_places(path, row);
-    let up = first_places(path, column);
-    Masks { less, at, up }
+    let vertices = win.path.vertices;
+    let Spot { row, column } = win.at;
+    Masks {
+        less: first_places(vertices, place_before(win.mode, row, column)),
+        at: first_places(vertices, row),
+        up: first_places(vertices, column),
+    }
 }
 
 // The columns at which row i is reached by rows.
@@ -94,70 +97,63 @@ fn firsts(mode: u32, i: u32, row: u32, column: u32) -> u32
 
 // The vertices whose pair with one that stands at u is the image of a pair that is reached by rows, by those at the places
 // before the winning pair's row, up to it, and up to its column.
-fn sources_by_rows(row: u32, column: u32, u: u32, less: u32, at: u32, up: u32) -> u32
+fn sources_by_rows(row: u32, column: u32, u: u32, masks: Masks) -> u32
     requires { (1 ≤ row) × (row < column) }
-    ensures { SourcesBy row_before (row - 1) row column u less at up result }
+    ensures { SourcesBy row_before (row - 1) row column u masks.less masks.at masks.up result }
 {
     if u < row {
         return 0xFFFF_FFFF;
     }
     if u == row {
-        return up;
+        return masks.up;
     }
     if u <= column {
-        return at;
+        return masks.at;
     }
-    less
+    masks.less
 }
 
 // And by columns, by those at the places before its column, up to its row, and up to its column.
-fn sources_by_columns(row: u32, column: u32, u: u32, less: u32, at: u32, up: u32) -> u32
+fn sources_by_columns(row: u32, column: u32, u: u32, masks: Masks) -> u32
     requires { (1 ≤ row) × (row < column) }
-    ensures { SourcesBy column_before (column - 1) row column u less at up result }
+    ensures { SourcesBy column_before (column - 1) row column u masks.less masks.at masks.up result }
 {
     if u <= row {
-        return up;
+        return masks.up;
     }
     if u < column {
-        return less;
+        return masks.less;
     }
     if u == column {
-        return at;
+        return masks.at;
     }
     0
 }
 
 // In the order of the mode.
-fn sources(mode: u32, row: u32, column: u32, u: u32, less: u32, at: u32, up: u32) -> u32
+fn sources(mode: u32, row: u32, column: u32, u: u32, masks: Masks) -> u32
     requires { (1 ≤ row) × (row < column) }
-    ensures { SourcesBy (before_in mode) (place_before mode row column) row column u less at up result }
+    ensures { SourcesBy (before_in mode) (place_before mode row column) row column u masks.less masks.at masks.up result }
 {
     if mode == 2 {
-        return sources_by_columns(row, column, u, less, at, up);
+        return sources_by_columns(row, column, u, masks);
     }
-    sources_by_rows(row, column, u, less, at, up)
+    sources_by_rows(row, column, u, masks)
 }
 
 // The columns after i at which row i may be written, column i + 1 as the lowest bit: those reached that have an edge, and
 // those whose source is reached that have none, less the unknown ones.
-pub fn columns_of<'a>(
-    edges: &'a [u32; 32],
-    unknowns: &'a [u32; 32],
-    places: &'a [u8; 32],
-    mode: u32,
-    n: u32,
-    row: u32,
-    column: u32,
-    masks: Masks,
-    i: u32,
-) -> u32
-    requires { (n ≤ 32) × (is_reordering n places.now ≡ true) × (1 ≤ row) × (row < column) × (column ≤ n) × MaskedBy mode n row column places.now masks.less masks.at masks.up × (1 ≤ i) × (i < n) }
-    ensures { (result < 2 ^ (n + 1 - (i + 1))) × ((pair_out image_out : Bool) → Ahead (kind_at (before_in mode) edges.now unknowns.now places.now (pair row column) pair_out image_out) n i (i + 1) result) }
+pub fn columns_of(win: Win, masks: Masks, i: u32) -> u32
+    requires { (win.order ≤ 32) × (is_reordering win.order win.path.places.now ≡ true) × (1 ≤ win.at.row) × (win.at.row < win.at.column) × (win.at.column ≤ win.order) × MaskedBy win.mode win.order win.at.row win.at.column win.path.places.now masks.less masks.at masks.up × (1 ≤ i) × (i < win.order) }
+    ensures { (result < 2 ^ (win.entry.order + 1 - (i + 1))) × ((pair_out image_out : Bool) → Ahead (kind_at (before_in win.entry.mode) win.entry.path.rows.edges.now win.entry.path.rows.unknowns.now win.entry.path.places.now (pair win.entry.at.row win.entry.at.column) pair_out image_out) win.entry.order i (i + 1) result) }
 {
+    let n = win.order;
+    let Path { rows, places, .. } = win.path;
+    let Spot { row, column } = win.at;
     let u = vertex_of(n, places, i);
-    let first = firsts(mode, i, row, column);
-    let source = sources(mode, row, column, u, masks.less, masks.at, masks.up);
-    let ones = row_of(edges, i);
-    let columns = without((first & ones) | without(source, ones), row_of(unknowns, i));
+    let first = firsts(win.mode, i, row, column);
+    let source = sources(win.mode, row, column, u, masks);
+    let ones = row_of(rows.edges, i);
+    let columns = without((first & ones) | without(source, ones), row_of(rows.unknowns, i));
     (columns & (0xFFFF_FFFF >> (32 - n))) >> i
 }

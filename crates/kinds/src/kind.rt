@@ -6,11 +6,14 @@ ghost use Rattle.arrangements.specs.Arrangement.{is_reordering};
 ghost use Rattle.pairs.specs.Pairs.{pair};
 ghost use Rattle.plain.specs.Before.{before_in};
 ghost use Rattle.plain.specs.Plain.{pair_of_two};
+ghost use Rattle.kinds.specs.Kind.{kind_code};
 ghost use Rattle.kinds.specs.Kinds.{kind_at};
 
 use arrangements::places::vertex_of;
 use rows::entries::entry_in;
 use turns::before::{comes_before, is_before};
+use turns::next::Spot;
+use turns::walked::Path;
 
 // What is left out at the winning pair: what stands there itself, or at its image.
 #[derive(Clone, Copy)]
@@ -19,26 +22,43 @@ pub struct Without {
     pub image: bool,
 }
 
-// Does (i, j) come before (row, column), or is it that pair and that is not left out?
-fn is_reached(mode: u32, i: u32, j: u32, row: u32, column: u32, without: bool) -> bool
-    requires { (1 ≤ i) × (1 ≤ j) × (1 ≤ row) × (1 ≤ column) }
-    ensures { result ≡ up_to (before_in mode) without (pair row column) (pair i j) }
+// What is written for a pair: nothing, "not" the pair, or the pair.
+#[derive(Clone, Copy)]
+pub enum Kind {
+    Nothing,
+    Not,
+    Pair,
+}
+
+// A path over all vertices, so many, that wins at a pair in the order that a mode names.
+#[derive(Clone, Copy)]
+pub struct Win<'a> {
+    pub mode: u32,
+    pub order: u32,
+    pub path: Path<'a>,
+    pub at: Spot,
+}
+
+// Does (i, j) come before the winning pair, or is it that pair and that is not left out?
+fn is_reached(mode: u32, i: u32, j: u32, at: Spot, without: bool) -> bool
+    requires { (1 ≤ i) × (1 ≤ j) × (1 ≤ at.row) × (1 ≤ at.column) }
+    ensures { result ≡ up_to (before_in mode) without (pair at.row at.column) (pair i j) }
 {
     if without {
-        return is_before(mode, i, j, row, column);
+        return is_before(mode, i, j, at.row, at.column);
     }
-    !is_before(mode, row, column, i, j)
+    !is_before(mode, at.row, at.column, i, j)
 }
 
 // The same for the pair of u and v.
-pub fn is_reached_of(mode: u32, u: u32, v: u32, row: u32, column: u32, without: bool) -> bool
-    requires { (1 ≤ u) × (1 ≤ v) × (1 ≤ row) × (1 ≤ column) }
-    ensures { result ≡ up_to (before_in mode) without (pair row column) (pair_of_two u v) }
+pub fn is_reached_of(mode: u32, u: u32, v: u32, at: Spot, without: bool) -> bool
+    requires { (1 ≤ u) × (1 ≤ v) × (1 ≤ at.row) × (1 ≤ at.column) }
+    ensures { result ≡ up_to (before_in mode) without (pair at.row at.column) (pair_of_two u v) }
 {
     if u < v {
-        return is_reached(mode, u, v, row, column, without);
+        return is_reached(mode, u, v, at, without);
     }
-    is_reached(mode, v, u, row, column, without)
+    is_reached(mode, v, u, at, without)
 }
 
 // Does (i, j) come before the pair of u and v?
@@ -53,75 +73,46 @@ pub fn goes_before(mode: u32, i: u32, j: u32, u: u32, v: u32) -> bool
 }
 
 // Does (i, j) come before the pair of u and v, whose image it is, and is it reached?
-fn is_met_in_place(
-    mode: u32,
-    i: u32,
-    j: u32,
-    u: u32,
-    v: u32,
-    row: u32,
-    column: u32,
-    without: bool,
-) -> bool
-    requires { (1 ≤ i) × (1 ≤ j) × (1 ≤ row) × (1 ≤ column) }
-    ensures { result ≡ both (before_in mode (pair i j) (pair_of_two u v)) (up_to (before_in mode) without (pair row column) (pair i j)) }
+fn is_met_in_place(mode: u32, i: u32, j: u32, u: u32, v: u32, at: Spot, without: bool) -> bool
+    requires { (1 ≤ i) × (1 ≤ j) × (1 ≤ at.row) × (1 ≤ at.column) }
+    ensures { result ≡ both (before_in mode (pair i j) (pair_of_two u v)) (up_to (before_in mode) without (pair at.row at.column) (pair i j)) }
 {
-    if goes_before(mode, i, j, u, v) {
-        return is_reached(mode, i, j, row, column, without);
-    }
-    false
+    goes_before(mode, i, j, u, v) && is_reached(mode, i, j, at, without)
 }
 
 // Does the pair of u and v, whose image is (i, j), come before it, and is it reached?
-fn is_met_as_image(
-    mode: u32,
-    i: u32,
-    j: u32,
-    u: u32,
-    v: u32,
-    row: u32,
-    column: u32,
-    without: bool,
-) -> bool
-    requires { (1 ≤ u) × (1 ≤ v) × (1 ≤ row) × (1 ≤ column) }
-    ensures { result ≡ both (before_in mode (pair_of_two u v) (pair i j)) (up_to (before_in mode) without (pair row column) (pair_of_two u v)) }
+fn is_met_as_image(mode: u32, i: u32, j: u32, u: u32, v: u32, at: Spot, without: bool) -> bool
+    requires { (1 ≤ u) × (1 ≤ v) × (1 ≤ at.row) × (1 ≤ at.column) }
+    ensures { result ≡ both (before_in mode (pair_of_two u v) (pair i j)) (up_to (before_in mode) without (pair at.row at.column) (pair_of_two u v)) }
 {
-    if comes_before(mode, u, v, i, j) {
-        return is_reached_of(mode, u, v, row, column, without);
-    }
-    false
+    comes_before(mode, u, v, i, j) && is_reached_of(mode, u, v, at, without)
 }
 
-// What is written for the pair (i, j): 1 for "not" the pair, 2 for the pair, else 0.
-pub fn kind_at<'a>(
-    edges: &'a [u32; 32],
-    unknowns: &'a [u32; 32],
-    places: &'a [u8; 32],
-    mode: u32,
-    n: u32,
-    row: u32,
-    column: u32,
-    without: Without,
-    i: u32,
-    j: u32,
-) -> u32
-    requires { (n ≤ 32) × (is_reordering n places.now ≡ true) × (1 ≤ row) × (1 ≤ column) × (1 ≤ i) × (i < j) × (j ≤ n) }
-    ensures { result ≡ kind_at (before_in mode) edges.now unknowns.now places.now (pair row column) without.pair without.image (pair i j) }
+// What is written for the pair (i, j).
+pub fn kind_at(win: Win, without: Without, i: u32, j: u32) -> Kind
+    requires { (win.order ≤ 32) × (is_reordering win.order win.path.places.now ≡ true) × (1 ≤ win.at.row) × (1 ≤ win.at.column) × (1 ≤ i) × (i < j) × (j ≤ win.order) }
+    ensures { kind_code result ≡ kind_at (before_in win.entry.mode) win.entry.path.rows.edges.now win.entry.path.rows.unknowns.now win.entry.path.places.now (pair win.entry.at.row win.entry.at.column) without.pair without.image (pair i j) }
 {
-    let a = entry_in(edges, unknowns, i, j);
-    let u = vertex_of(n, places, i);
-    let v = vertex_of(n, places, j);
+    let Win {
+        mode,
+        order,
+        path,
+        at,
+    } = win;
+    let a = entry_in(path.rows, i, j);
+    let u = vertex_of(order, path.places, i);
+    let v = vertex_of(order, path.places, j);
     if a == 1 {
-        if is_met_in_place(mode, i, j, u, v, row, column, without.pair) {
-            return 1;
+        if is_met_in_place(mode, i, j, u, v, at, without.pair) {
+            return Kind::Not;
         }
-        return 0;
+        return Kind::Nothing;
     }
     if a == 0 {
-        if is_met_as_image(mode, i, j, u, v, row, column, without.image) {
-            return 2;
+        if is_met_as_image(mode, i, j, u, v, at, without.image) {
+            return Kind::Pair;
         }
-        return 0;
+        return Kind::Nothing;
     }
-    0
+    Kind::Nothing
 }
