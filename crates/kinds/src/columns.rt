@@ -9,7 +9,7 @@ ghost use Rattle.kinds.specs.Kinds.{kind_at, place_before, FirstIn, MaskedBy, Fi
 
 use crate::kind::Win;
 use arrangements::places::vertex_of;
-use turns::next::Spot;
+use turns::spot::Spot;
 use turns::path::weight_of;
 use turns::walked::{Path, row_of};
 use words::without;

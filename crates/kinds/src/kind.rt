@@ -12,7 +12,7 @@ ghost use Rattle.kinds.specs.Kinds.{kind_at};
 use arrangements::places::vertex_of;
 use rows::entries::entry_in;
 use turns::before::{comes_before, is_before};
-use turns::next::Spot;
+use turns::spot::Spot;
 use turns::walked::Path;
 
 // What is left out at the winning pair: what stands there itself, or at its image.

@@ -14,7 +14,7 @@ use Rattle.pairs.specs.Pairs.{Pair, pair, pairs, Between, along_row, from_row, n
 use Rattle.pairs.specs.Columns.{down_column, columns}
 use Rattle.pairs.proofs.PairLaws.{pairs_from, pairs_row_one}
 use Rattle.plain.specs.Plain.{compared_in}
-use Rattle.turns.specs.Next.{down_from, columns_from, rows_after, columns_after, pairs_after, starting_at, PairOrNone}
+use Rattle.turns.specs.Next.{down_from, columns_from, rows_after, columns_after, pairs_after, starting_at}
 
 -- ---- columns from one on
 
@@ -121,23 +121,7 @@ module _ (after : Pair → List Pair) where
   unfolding starting_at
   starting_none i j none = pick_true (eqb i 0) [] (pair i j ∷ after (pair i j)) (eq-eqb i 0 none)
 
-pub none_next : (n : ℕ) → PairOrNone n 0 0
-none_next n = record { between = λ d. absurd (d refl) }
-
 module _ (n i j : ℕ) (low : 1 ≤ i) (rising : i < j) (high : j ≤ n) where
-  -- it is a pair
-  pub along_pair : j < n → PairOrNone n i (j + 1)
-  along_pair h = record { between = λ d. omega arith }
-
-  pub row_pair : i + 1 < n → PairOrNone n (i + 1) (i + 2)
-  row_pair h = record { between = λ d. omega arith }
-
-  pub down_pair : i + 1 < j → PairOrNone n (i + 1) j
-  down_pair h = record { between = λ d. omega arith }
-
-  pub column_pair : j < n → PairOrNone n 1 (j + 1)
-  column_pair h = record { between = λ d. omega arith }
-
   -- by rows
   pub along_next : j < n → rows_after n (pair i j) ≡ starting_at (rows_after n) (pair i (j + 1))
   unfolding rows_after along_row
@@ -188,26 +172,18 @@ module _ (n i j : ℕ) (low : 1 ≤ i) (rising : i < j) (high : j ≤ n) where
 
 -- ---- a loop along them
 
--- a pair that is not (0, 0)
-module _ (n i j : ℕ) (one : PairOrNone n i j) (some : i ≢ 0) where
-  pub spot_rising : i < j
-  spot_rising = (one.between some).rising
-
-  pub spot_high : j ≤ n
-  spot_high = (one.between some).to_high
-
 -- fewer are left at the next one
-pub fewer_left : (after : Pair → List Pair) (i j row column : ℕ) → i ≢ 0 → after (pair i j) ≡ starting_at after (pair row column)
-    → length (starting_at after (pair row column)) < length (starting_at after (pair i j))
-fewer_left after i j row column some next = rw (starting_here after i j some, ← next) (omega arith)
+pub fewer_left : (after : Pair → List Pair) (i j : ℕ) (k : Pair) → 1 ≤ i → after (pair i j) ≡ starting_at after k
+    → length (starting_at after k) < length (starting_at after (pair i j))
+fewer_left after i j k some next = rw (starting_here after i j (λ z. omega arith), ← next) (omega arith)
 
 -- ---- in the order that a mode names
 
-module _ (mode n i j row column : ℕ) where
-  pub next_by_columns : mode ≡ 2 → columns_after n (pair i j) ≡ starting_at (columns_after n) (pair row column) → pairs_after mode n (pair i j) ≡ starting_at (pairs_after mode n) (pair row column)
+module _ (mode n i j : ℕ) (k : Pair) where
+  pub next_by_columns : mode ≡ 2 → columns_after n (pair i j) ≡ starting_at (columns_after n) k → pairs_after mode n (pair i j) ≡ starting_at (pairs_after mode n) k
   unfolding pairs_after starting_at pick
   next_by_columns e h = rw (eq-eqb mode 2 e) h
 
-  pub next_by_rows : mode ≢ 2 → rows_after n (pair i j) ≡ starting_at (rows_after n) (pair row column) → pairs_after mode n (pair i j) ≡ starting_at (pairs_after mode n) (pair row column)
+  pub next_by_rows : mode ≢ 2 → rows_after n (pair i j) ≡ starting_at (rows_after n) k → pairs_after mode n (pair i j) ≡ starting_at (pairs_after mode n) k
   unfolding pairs_after starting_at pick
   next_by_rows d h = rw (ne_eqb mode 2 d) h

@@ -1,7 +1,8 @@
 -- The pairs that are compared after one, in the order that a mode names.
-use Rattle.std.specs.Prelude.{ℕ, zero, suc, ◌-◌, ◌≢◌, List, [], ◌∷◌, ◌++◌, eqb}
+use Rattle.std.specs.Prelude.{ℕ, zero, suc, ◌-◌, List, [], ◌∷◌, ◌++◌, eqb, Option, Some, None}
 use Rattle.laws.specs.Test.{pick}
-use Rattle.pairs.specs.Pairs.{Pair, pair, Between, along_row, from_row}
+use Rattle.pairs.specs.Pairs.{Pair, pair, along_row, from_row}
+use Rattle.turns.specs.declared.spot.Spot.{Spot}
 
 -- (i, j), (i + 1, j), ..: m pairs
 unfoldable pub down_from : ℕ → ℕ → ℕ → List Pair
@@ -29,6 +30,7 @@ pairs_after mode n k = pick (eqb mode 2) (columns_after n k) (rows_after n k)
 unfoldable pub starting_at : (Pair → List Pair) → Pair → List Pair
 starting_at after k = pick (eqb k.row 0) [] (k ∷ after k)
 
--- (i, j) is a pair of 1..n, or i is 0
-pub record PairOrNone (n i j : ℕ) : Type 0 where
-  pub between : i ≢ 0 → Between 1 n (pair i j)
+-- the pair that a spot is, or (0, 0) for none
+abbrev pub spot_pair : Option Spot → Pair
+spot_pair None = pair 0 0
+spot_pair (Some s) = pair s.row s.column

@@ -6,5 +6,6 @@
 pub mod before;
 pub mod next;
 pub mod path;
+pub mod spot;
 pub mod turn;
 pub mod walked;

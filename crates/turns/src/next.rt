@@ -1,62 +1,59 @@
 // The pair that is compared after another one, in the order that a mode names.
-ghost use Rattle.std.specs.Prelude.{◌≡◌, ◌≤◌, ◌<◌};
+ghost use Rattle.std.specs.Prelude.{◌≡◌, ◌≤◌, ◌<◌, IfSome};
 ghost use Rattle.pairs.specs.Pairs.{pair};
-ghost use Rattle.turns.specs.Next.{rows_after, columns_after, pairs_after, starting_at, PairOrNone};
+ghost use Rattle.turns.specs.Next.{rows_after, columns_after, pairs_after, starting_at, spot_pair};
 
-// A pair, or (0, 0) for none.
-#[derive(Clone, Copy)]
-pub struct Spot {
-    pub row: u32,
-    pub column: u32,
-}
+use crate::spot::Spot;
 
 // The next pair by rows.
-fn next_by_rows(n: u32, i: u32, j: u32) -> Spot
-    requires { (1 ≤ i) × (i < j) × (j ≤ n) × (n ≤ 32) }
-    ensures { (rows_after n (pair i j) ≡ starting_at (rows_after n) (pair result.row result.column)) × PairOrNone n result.row result.column }
+fn next_by_rows(n: u32, at: Spot) -> Option<Spot>
+    requires { (at.column ≤ n) × (n ≤ 32) }
+    ensures { (rows_after n (pair at.row at.column) ≡ starting_at (rows_after n) (spot_pair result)) × IfSome result (λ s. s.column ≤ n) }
 {
-    if j < n {
-        return Spot {
-            row: i,
-            column: j + 1,
-        };
+    let Spot { row, column } = at;
+    if column < n {
+        return Some(Spot {
+            row,
+            column: column + 1,
+        });
     }
-    if i + 1 < n {
-        return Spot {
-            row: i + 1,
-            column: i + 2,
-        };
+    if row + 1 < n {
+        return Some(Spot {
+            row: row + 1,
+            column: row + 2,
+        });
     }
-    Spot { row: 0, column: 0 }
+    None
 }
 
 // The next pair by columns.
-fn next_by_columns(n: u32, i: u32, j: u32) -> Spot
-    requires { (1 ≤ i) × (i < j) × (j ≤ n) × (n ≤ 32) }
-    ensures { (columns_after n (pair i j) ≡ starting_at (columns_after n) (pair result.row result.column)) × PairOrNone n result.row result.column }
+fn next_by_columns(n: u32, at: Spot) -> Option<Spot>
+    requires { (at.column ≤ n) × (n ≤ 32) }
+    ensures { (columns_after n (pair at.row at.column) ≡ starting_at (columns_after n) (spot_pair result)) × IfSome result (λ s. s.column ≤ n) }
 {
-    if i + 1 < j {
-        return Spot {
-            row: i + 1,
-            column: j,
-        };
+    let Spot { row, column } = at;
+    if row + 1 < column {
+        return Some(Spot {
+            row: row + 1,
+            column,
+        });
     }
-    if j < n {
-        return Spot {
+    if column < n {
+        return Some(Spot {
             row: 1,
-            column: j + 1,
-        };
+            column: column + 1,
+        });
     }
-    Spot { row: 0, column: 0 }
+    None
 }
 
-// The pair that is compared after (i, j), or (0, 0) where none is.
-pub fn next_pair(mode: u32, n: u32, i: u32, j: u32) -> Spot
-    requires { (1 ≤ i) × (i < j) × (j ≤ n) × (n ≤ 32) }
-    ensures { (pairs_after mode n (pair i j) ≡ starting_at (pairs_after mode n) (pair result.row result.column)) × PairOrNone n result.row result.column }
+// The pair that is compared after another one, if any.
+pub fn next_pair(mode: u32, n: u32, at: Spot) -> Option<Spot>
+    requires { (at.column ≤ n) × (n ≤ 32) }
+    ensures { (pairs_after mode n (pair at.row at.column) ≡ starting_at (pairs_after mode n) (spot_pair result)) × IfSome result (λ s. s.column ≤ n) }
 {
     if mode == 2 {
-        return next_by_columns(n, i, j);
+        return next_by_columns(n, at);
     }
-    next_by_rows(n, i, j)
+    next_by_rows(n, at)
 }
