@@ -47,7 +47,7 @@ pub struct Masks {
 
 // These masks for the winning pair (row, column).
 pub fn masks_of(win: Win) -> Masks
-    requires { (win.order ≤ 32) × Reordering win.order win.path.vertices.now × (1 ≤ win.at.row) × (win.at.row < win.at.column) × (win.at.column ≤ win.order) }
+    requires { (win.order ≤ 32) × Reordering win.order win.path.vertices.now × (win.at.column ≤ win.order) }
     ensures { MaskedBy win.entry.mode win.entry.order win.entry.at.row win.entry.at.column (inverse win.entry.order win.entry.path.vertices.now) result.less result.at result.up }
 {
     let vertices = win.path.vertices;
@@ -144,7 +144,7 @@ fn sources(mode: u32, row: u32, column: u32, u: u32, masks: Masks) -> u32
 // The columns after i at which row i may be written, column i + 1 as the lowest bit: those reached that have an edge, and
 // those whose source is reached that have none, less the unknown ones.
 pub fn columns_of(win: Win, masks: Masks, i: u32) -> u32
-    requires { (win.order ≤ 32) × (is_reordering win.order win.path.places.now ≡ true) × (1 ≤ win.at.row) × (win.at.row < win.at.column) × (win.at.column ≤ win.order) × MaskedBy win.mode win.order win.at.row win.at.column win.path.places.now masks.less masks.at masks.up × (1 ≤ i) × (i < win.order) }
+    requires { (win.order ≤ 32) × (is_reordering win.order win.path.places.now ≡ true) × (win.at.column ≤ win.order) × MaskedBy win.mode win.order win.at.row win.at.column win.path.places.now masks.less masks.at masks.up × (1 ≤ i) × (i < win.order) }
     ensures { (result < 2 ^ (win.entry.order + 1 - (i + 1))) × ((pair_out image_out : Bool) → Ahead (kind_at (before_in win.entry.mode) win.entry.path.rows.edges.now win.entry.path.rows.unknowns.now win.entry.path.places.now (pair win.entry.at.row win.entry.at.column) pair_out image_out) win.entry.order i (i + 1) result) }
 {
     let n = win.order;

@@ -41,7 +41,7 @@ pub struct Win<'a> {
 
 // Does (i, j) come before the winning pair, or is it that pair and that is not left out?
 fn is_reached(mode: u32, i: u32, j: u32, at: Spot, without: bool) -> bool
-    requires { (1 ≤ i) × (1 ≤ j) × (1 ≤ at.row) × (1 ≤ at.column) }
+    requires { (1 ≤ i) × (1 ≤ j) }
     ensures { result ≡ up_to (before_in mode) without (pair at.row at.column) (pair i j) }
 {
     if without {
@@ -52,7 +52,7 @@ fn is_reached(mode: u32, i: u32, j: u32, at: Spot, without: bool) -> bool
 
 // The same for the pair of u and v.
 pub fn is_reached_of(mode: u32, u: u32, v: u32, at: Spot, without: bool) -> bool
-    requires { (1 ≤ u) × (1 ≤ v) × (1 ≤ at.row) × (1 ≤ at.column) }
+    requires { (1 ≤ u) × (1 ≤ v) }
     ensures { result ≡ up_to (before_in mode) without (pair at.row at.column) (pair_of_two u v) }
 {
     if u < v {
@@ -74,7 +74,7 @@ pub fn goes_before(mode: u32, i: u32, j: u32, u: u32, v: u32) -> bool
 
 // Does (i, j) come before the pair of u and v, whose image it is, and is it reached?
 fn is_met_in_place(mode: u32, i: u32, j: u32, u: u32, v: u32, at: Spot, without: bool) -> bool
-    requires { (1 ≤ i) × (1 ≤ j) × (1 ≤ at.row) × (1 ≤ at.column) }
+    requires { (1 ≤ i) × (1 ≤ j) }
     ensures { result ≡ both (before_in mode (pair i j) (pair_of_two u v)) (up_to (before_in mode) without (pair at.row at.column) (pair i j)) }
 {
     goes_before(mode, i, j, u, v) && is_reached(mode, i, j, at, without)
@@ -82,7 +82,7 @@ fn is_met_in_place(mode: u32, i: u32, j: u32, u: u32, v: u32, at: Spot, without:
 
 // Does the pair of u and v, whose image is (i, j), come before it, and is it reached?
 fn is_met_as_image(mode: u32, i: u32, j: u32, u: u32, v: u32, at: Spot, without: bool) -> bool
-    requires { (1 ≤ u) × (1 ≤ v) × (1 ≤ at.row) × (1 ≤ at.column) }
+    requires { (1 ≤ u) × (1 ≤ v) }
     ensures { result ≡ both (before_in mode (pair_of_two u v) (pair i j)) (up_to (before_in mode) without (pair at.row at.column) (pair_of_two u v)) }
 {
     comes_before(mode, u, v, i, j) && is_reached_of(mode, u, v, at, without)
@@ -90,7 +90,7 @@ fn is_met_as_image(mode: u32, i: u32, j: u32, u: u32, v: u32, at: Spot, without:
 
 // What is written for the pair (i, j).
 pub fn kind_at(win: Win, without: Without, i: u32, j: u32) -> Kind
-    requires { (win.order ≤ 32) × (is_reordering win.order win.path.places.now ≡ true) × (1 ≤ win.at.row) × (1 ≤ win.at.column) × (1 ≤ i) × (i < j) × (j ≤ win.order) }
+    requires { (win.order ≤ 32) × (is_reordering win.order win.path.places.now ≡ true) × (1 ≤ i) × (i < j) × (j ≤ win.order) }
     ensures { kind_code result ≡ kind_at (before_in win.entry.mode) win.entry.path.rows.edges.now win.entry.path.rows.unknowns.now win.entry.path.places.now (pair win.entry.at.row win.entry.at.column) without.pair without.image (pair i j) }
 {
     let Win {

@@ -4,7 +4,7 @@ use native.Mathlib.Omega.{arith}
 use mathlib.Core.Path.{◌≡◌, refl, sym, ap, ap₂, ◌∙◌}
 use mathlib.Core.Logic.{◌≢◌}
 use mathlib.Core.Bool.{Bool, true, false}
-use mathlib.Core.List.{List}
+use mathlib.Core.List.{List, ◌∷◌}
 use lib.Dec.{eqb}
 use borrow.Author.Tests.{eq-eqb, ne_eqb}
 use Rattle.laws.specs.Compared.{by_below}
@@ -103,23 +103,26 @@ turn_is mode edges unknowns p q w pair_out image_out i j s t u v here there a b 
 
 -- ---- along the pairs
 
-pub walk_begins : (t : Pair → ℕ) (mode n : ℕ) (k : Pair) (i j : ℕ) → pairs_after mode n k ≡ starting_at (pairs_after mode n) (pair i j)
-    → walk_code t (starting_at (pairs_after mode n) (pair i j)) ≡ walk_code t (pairs_after mode n k)
-walk_begins t mode n k i j e = ap (walk_code t) (sym e)
+pub walk_begins : (t : Pair → ℕ) (mode n : ℕ) (k next : Pair) → pairs_after mode n k ≡ starting_at (pairs_after mode n) next
+    → walk_code t (starting_at (pairs_after mode n) next) ≡ walk_code t (pairs_after mode n k)
+walk_begins t mode n k next e = ap (walk_code t) (sym e)
 
 module _ (t : Pair → ℕ) (after : Pair → List Pair) (i j whole : ℕ) (left : walk_code t (starting_at after (pair i j)) ≡ whole) where
-  module _ (some : i ≢ 0) (c : ℕ) (e : c ≡ t (pair i j)) where
+  module _ (some : 1 ≤ i) (c : ℕ) (e : c ≡ t (pair i j)) where
+    here : starting_at after (pair i j) ≡ pair i j ∷ after (pair i j)
+    here = starting_here after i j (λ z. omega arith)
+
     -- the next one where the pair goes on
-    pub walk_along : (row column : ℕ) → c ≡ 0 → after (pair i j) ≡ starting_at after (pair row column) → walk_code t (starting_at after (pair row column)) ≡ whole
+    pub walk_along : (next : Pair) → c ≡ 0 → after (pair i j) ≡ starting_at after next → walk_code t (starting_at after next) ≡ whole
     unfolding walk_code pick
-    walk_along row column z next = rw (starting_here after i j some, eq-eqb (t (pair i j)) 0 (sym e ∙ z), next) at left
+    walk_along next z is = rw (here, eq-eqb (t (pair i j)) 0 (sym e ∙ z), is) at left
 
     -- the end where it does not
-    pub walk_ends : c ≢ 0 → eqb c 2 ≡ eqb whole 2
+    pub walk_ends : c ≢ 0 → (r : Bool) → r ≡ eqb c 2 → r ≡ eqb whole 2
     unfolding walk_code pick
-    walk_ends d = ap (λ (x : ℕ). eqb x 2) (e ∙ (rw (starting_here after i j some, ne_eqb (t (pair i j)) 0 (λ z. d (e ∙ z))) at left))
+    walk_ends d r h = h ∙ ap (λ (x : ℕ). eqb x 2) (e ∙ (rw (here, ne_eqb (t (pair i j)) 0 (λ z. d (e ∙ z))) at left))
 
-  -- the end where no pair is left
-  pub walk_open : i ≡ 0 → false ≡ eqb whole 2
-  unfolding walk_code
-  walk_open none = ap (λ (x : ℕ). eqb x 2) (rw (starting_none after i j none) at left)
+-- the end where no pair is left
+pub walk_open : (t : Pair → ℕ) (after : Pair → List Pair) (whole : ℕ) → walk_code t (starting_at after (pair 0 0)) ≡ whole → false ≡ eqb whole 2
+unfolding walk_code
+walk_open t after whole left = ap (λ (x : ℕ). eqb x 2) (rw (starting_none after 0 0 refl) at left)

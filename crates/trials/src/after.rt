@@ -1,40 +1,40 @@
-// The walk on after the winning pair, where only the entries that stay are known. An answer is 0 where it goes on, 1 where
-// it loses, 2 where it wins.
+// The walk on after the winning pair, where only the entries that stay are known.
 ghost use Rattle.std.specs.Prelude.{◌≡◌, ◌≤◌, ◌<◌, eqb};
 ghost use Rattle.needed.specs.Settled.{up_to};
 ghost use Rattle.pairs.specs.Pairs.{pair};
 ghost use Rattle.plain.specs.Before.{before_in};
 ghost use Rattle.plain.specs.Plain.{pair_of_two};
+ghost use Rattle.turns.specs.Turn.{turn_code};
 ghost use Rattle.turns.specs.Turns.{walk_code, Places};
 ghost use Rattle.turns.specs.Next.{pairs_after};
 ghost use Rattle.trials.specs.After.{count_after, turn_after};
 
 use arrangements::places::vertex_at;
-use kinds::kind::{Without, is_reached_of};
+use kinds::kind::{Win, Without, is_reached_of};
 use rows::entries::entry_in;
 use turns::before::comes_before;
 use turns::next::next_pair;
-use turns::walked::{is_own, turn_by};
+use turns::spot::Spot;
+use turns::turn::Turn;
+use turns::walked::{Path, is_own, turn_by};
 
-// How an entry counts at the pair (i, j), where the pair of s and t meets it too: as the value, unless that pair comes first;
+// How an entry counts at the pair here, where the pair of s and t meets it too: as the value, unless that pair comes first;
 // then as the opposite, unless the entry is the value and stays, as that pair is reached.
 fn count_after(
     value: u32,
     entry: u32,
     mode: u32,
-    row: u32,
-    column: u32,
+    at: Spot,
     without: bool,
-    i: u32,
-    j: u32,
+    here: Spot,
     s: u32,
     t: u32,
 ) -> u32
-    requires { (value ≤ 1) × (1 ≤ row) × (1 ≤ column) × (1 ≤ s) × (1 ≤ t) }
-    ensures { result ≡ count_after value entry (before_in mode (pair_of_two s t) (pair i j)) (up_to (before_in mode) without (pair row column) (pair_of_two s t)) }
+    requires { (value ≤ 1) × (1 ≤ s) × (1 ≤ t) }
+    ensures { result ≡ count_after value entry (before_in mode (pair_of_two s t) (pair here.row here.column)) (up_to (before_in mode) without (pair at.row at.column) (pair_of_two s t)) }
 {
-    if comes_before(mode, s, t, i, j) {
-        if is_reached_of(mode, s, t, row, column, without) {
+    if comes_before(mode, s, t, here.row, here.column) {
+        if is_reached_of(mode, s, t, at, without) {
             if entry == value {
                 return value;
             }
@@ -45,65 +45,45 @@ fn count_after(
     value
 }
 
-// What the pair (i, j) does under the path. A pair that is its own image is passed at once: most are.
-fn turn_after<'a>(
-    edges: &'a [u32; 32],
-    unknowns: &'a [u32; 32],
-    path: &'a [u8; 32],
-    places: &'a [u8; 32],
-    mode: u32,
-    n: u32,
-    row: u32,
-    column: u32,
-    without: Without,
-    i: u32,
-    j: u32,
-) -> u32
-    requires { (n ≤ 32) × Places n path.now places.now × (1 ≤ row) × (1 ≤ column) × (1 ≤ i) × (i < j) × (j ≤ n) }
-    ensures { result ≡ turn_after (before_in mode) edges.now unknowns.now path.now places.now (pair row column) without.pair without.image (pair i j) }
+// What a pair does under the path. One that is its own image is passed at once: most are.
+fn turn_after(win: Win, without: Without, here: Spot) -> Turn
+    requires { (win.order ≤ 32) × Places win.order win.path.vertices.now win.path.places.now × (here.column ≤ win.order) }
+    ensures { turn_code result ≡ turn_after (before_in win.entry.mode) win.entry.path.rows.edges.now win.entry.path.rows.unknowns.now win.entry.path.vertices.now win.entry.path.places.now (pair win.entry.at.row win.entry.at.column) without.pair without.image (pair here.row here.column) }
 {
-    let u = vertex_at(path, i);
-    let v = vertex_at(path, j);
+    let Win { mode, path, at, .. } = win;
+    let Path {
+        rows,
+        vertices,
+        places,
+    } = path;
+    let i = here.row;
+    let j = here.column;
+    let u = vertex_at(vertices, i);
+    let v = vertex_at(vertices, j);
     if is_own(i, j, u, v) {
-        return 0;
+        return Turn::Open;
     }
     let s = vertex_at(places, i);
     let t = vertex_at(places, j);
-    let here = entry_in(edges, unknowns, i, j);
-    let there = entry_in(edges, unknowns, u, v);
-    let a = count_after(0, here, mode, row, column, without.image, i, j, s, t);
-    let b = count_after(1, there, mode, row, column, without.pair, i, j, u, v);
+    let own = entry_in(rows, i, j);
+    let other = entry_in(rows, u, v);
+    let a = count_after(0, own, mode, at, without.image, here, s, t);
+    let b = count_after(1, other, mode, at, without.pair, here, u, v);
     turn_by(a, b, i, j, u, v)
 }
 
-// Is the walk won after the winning pair (row, column)?
-pub fn wins_after<'a>(
-    edges: &'a [u32; 32],
-    unknowns: &'a [u32; 32],
-    path: &'a [u8; 32],
-    places: &'a [u8; 32],
-    mode: u32,
-    n: u32,
-    row: u32,
-    column: u32,
-    without: Without,
-) -> bool
-    requires { (n ≤ 32) × Places n path.now places.now × (1 ≤ row) × (row < column) × (column ≤ n) }
-    ensures { result ≡ eqb (walk_code (turn_after (before_in mode) edges.now unknowns.now path.now places.now (pair row column) without.pair without.image) (pairs_after mode n (pair row column))) 2 }
+// Is the walk won after the winning pair?
+pub fn wins_after(win: Win, without: Without) -> bool
+    requires { (win.order ≤ 32) × Places win.order win.path.vertices.now win.path.places.now × (win.at.column ≤ win.order) }
+    ensures { result ≡ eqb (walk_code (turn_after (before_in win.entry.mode) win.entry.path.rows.edges.now win.entry.path.rows.unknowns.now win.entry.path.vertices.now win.entry.path.places.now (pair win.entry.at.row win.entry.at.column) without.pair without.image) (pairs_after win.entry.mode win.entry.order (pair win.entry.at.row win.entry.at.column))) 2 }
 {
-    let first = next_pair(mode, n, row, column);
-    let mut i = first.row;
-    let mut j = first.column;
-    while i != 0 {
-        let turn = turn_after(
-            edges, unknowns, path, places, mode, n, row, column, without, i, j,
-        );
-        if turn != 0 {
-            return turn == 2;
+    let mut next = next_pair(win.mode, win.order, win.at);
+    while let Some(here) = next {
+        let turn = turn_after(win, without, here);
+        if !turn.is_open() {
+            return turn.is_won();
         }
-        let next = next_pair(mode, n, i, j);
-        i = next.row;
-        j = next.column;
+        next = next_pair(win.mode, win.order, here);
     }
     false
 }

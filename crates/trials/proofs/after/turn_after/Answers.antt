@@ -6,14 +6,14 @@ use Rattle.trials.proofs.after.turn_after.Goals as goal
 pub returns-then-is_own : goal.returns-then-is_own
 returns-then-is_own c = search own_passes
 
-pub entry_in-there-requires : goal.entry_in-there-requires
-entry_in-there-requires c = (search first_low, search first_high, search last_low, search last_high)
+pub entry_in-other-requires : goal.entry_in-other-requires
+entry_in-other-requires c = (search first_low, search first_high, search last_low, search last_high)
 
 pub count_after-a-requires : goal.count_after-a-requires
-count_after-a-requires c = (search rules, search rules, search rules, search first_placed, search last_placed)
+count_after-a-requires c = (search rules, search first_placed, search last_placed)
 
 pub count_after-b-requires : goal.count_after-b-requires
-count_after-b-requires c = (search rules, search rules, search rules, search first_low, search last_low)
+count_after-b-requires c = (search rules, search first_low, search last_low)
 
 pub returns : goal.returns
 returns c = search (turn_is, rules)

@@ -1,25 +1,20 @@
 use borrow.Author.Rules.{rules}
-use Rattle.turns.proofs.NextLaws.{spot_rising, spot_high, fewer_left}
+use Rattle.turns.proofs.NextLaws.{fewer_left}
+use Rattle.turns.proofs.TurnCodes.{is_open, not_open}
 use Rattle.trials.proofs.CodeAfter.{walk_begins, walk_along, walk_ends, walk_open}
 use Rattle.trials.proofs.after.wins_after.Goals as goal
 
-pub loop-i-init : goal.loop-i-init
-loop-i-init c = (search rules, search (walk_begins, rules))
+pub loop-next-init : goal.loop-next-init
+loop-next-init c = (search rules, search (walk_begins, rules))
 
-pub turn_after-turn-requires : goal.turn_after-turn-requires
-turn_after-turn-requires c = (search rules, search rules, search rules, search rules, search rules, search (spot_rising, rules), search (spot_high, rules))
+pub loop-next-smaller : goal.loop-next-smaller
+loop-next-smaller c = search (fewer_left, rules)
 
-pub returns-then-turn-ne0 : goal.returns-then-turn-ne0
-returns-then-turn-ne0 c = search (walk_ends, rules)
+pub loop-next-preserved : goal.loop-next-preserved
+loop-next-preserved c = (search rules, search (walk_along, is_open _ _ c.is_open.ensures c.if-not-is_open.false, rules))
 
-pub next_pair-next-requires : goal.next_pair-next-requires
-next_pair-next-requires c = (search rules, search (spot_rising, rules), search (spot_high, rules), search rules)
-
-pub loop-i-smaller : goal.loop-i-smaller
-loop-i-smaller c = search (fewer_left, rules)
-
-pub loop-i-preserved : goal.loop-i-preserved
-loop-i-preserved c = (search rules, search (walk_along, rules))
+pub returns-then-not-is_open : goal.returns-then-not-is_open
+returns-then-not-is_open c = search (walk_ends, not_open _ _ c.is_open.ensures c.if-not-is_open.true, rules)
 
 pub returns : goal.returns
 returns c = search (walk_open, rules)
