@@ -7,10 +7,16 @@ use Rattle.plain.specs.Before.{row_before, before_in}
 use Rattle.arrangements.specs.Arrangement.{is_permitted}
 use Rattle.composing.specs.Composed.{inverse}
 use Rattle.graph.specs.declared.Graph.{Graph}
+use Rattle.graph.specs.Graph.{graph_of}
 use Rattle.graph.specs.Counts.{entry_at}
 use Rattle.graph.specs.WellFormed.{well_formed}
 use Rattle.pairs.specs.Pairs.{Pair}
 use Rattle.judging.specs.Judging.{walk_all}
+use Rattle.kinds.specs.declared.kind.Win.{Win}
+
+-- the graph of the rows of w, in blocks with these starts
+abbrev pub graph_in : Win → ℕ → Graph
+graph_in w starts = graph_of w.order w.path.rows.edges.now w.path.rows.unknowns.now starts
 
 -- p is permitted and wins at w, and q is its inverse
 pub record WinsAt (mode : ℕ) (g : Graph) (p q : List ℕ) (w : Pair) : Type 0 where

@@ -1,5 +1,5 @@
 // What is written for a pair.
-ghost use Rattle.std.specs.Prelude.{◌≡◌, true, ◌≤◌, ◌<◌};
+ghost use Rattle.std.specs.Prelude.{◌≡◌, true, ◌≤◌, ◌<◌, eqb};
 ghost use Rattle.laws.specs.Test.{both};
 ghost use Rattle.needed.specs.Settled.{up_to};
 ghost use Rattle.arrangements.specs.Arrangement.{is_reordering};
@@ -28,6 +28,15 @@ pub enum Kind {
     Nothing,
     Not,
     Pair,
+}
+
+impl Kind {
+    // Is nothing written?
+    pub fn is_nothing(self) -> bool
+        ensures { result ≡ eqb (kind_code self) 0 }
+    {
+        matches!(self, Kind::Nothing)
+    }
 }
 
 // A path over all vertices, so many, that wins at a pair in the order that a mode names.

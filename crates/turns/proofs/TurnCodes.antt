@@ -21,20 +21,20 @@ use Rattle.plain.proofs.Plain.{same_pair_tells}
 use Rattle.turns.specs.Turns.{count_by, turn_by, turn_of}
 use Rattle.judging.proofs.Arrangements.{entry_of_two}
 
--- what the code's test of a turn tells, where c is its number
+-- what the code's test of a number tells
 module _ (c : ℕ) (r : Bool) (e : r ≡ eqb c 0) where
-  pub is_open : r ≡ true → c ≡ 0
-  is_open h = eqb-true c 0 (sym e ∙ h)
+  pub is_zero : r ≡ true → c ≡ 0
+  is_zero h = eqb-true c 0 (sym e ∙ h)
 
-  pub not_open : r ≡ false → c ≡ 0 → ⊥
-  not_open h = eqb-false c 0 (sym e ∙ h)
+  pub not_zero : r ≡ false → c ≡ 0 → ⊥
+  not_zero h = eqb-false c 0 (sym e ∙ h)
 
 module _ (c : ℕ) (r : Bool) (e : r ≡ eqb c 2) where
-  pub is_won : r ≡ true → c ≡ 2
-  is_won h = eqb-true c 2 (sym e ∙ h)
+  pub is_two : r ≡ true → c ≡ 2
+  is_two h = eqb-true c 2 (sym e ∙ h)
 
-  pub not_won : r ≡ false → c ≡ 2 → ⊥
-  not_won h = eqb-false c 2 (sym e ∙ h)
+  pub not_two : r ≡ false → c ≡ 2 → ⊥
+  not_two h = eqb-false c 2 (sym e ∙ h)
 
 -- a move by number
 unfoldable pub code_of : Move → ℕ

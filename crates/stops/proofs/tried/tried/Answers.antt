@@ -1,6 +1,6 @@
 use borrow.Author.Rules.{rules}
 use Rattle.stops.proofs.CodeTried.{stop_won, stop_lost, tried_open, tried_won, tried_not}
-use Rattle.turns.proofs.TurnCodes.{is_won, not_won}
+use Rattle.turns.proofs.TurnCodes.{is_two, not_two}
 use Rattle.stops.proofs.tried.tried.Goals as goal
 
 pub returns-then-one_at-eq1 : goal.returns-then-one_at-eq1
@@ -16,7 +16,7 @@ pub rows_walk-requires : goal.rows_walk-requires
 rows_walk-requires c = (search rules, c.requires.4 c.if-k-n.false)
 
 pub returns-then-is_won : goal.returns-then-is_won
-returns-then-is_won c = search (tried_won, is_won _ _ c.is_won.ensures c.if-is_won.true, rules)
+returns-then-is_won c = search (tried_won, is_two _ _ c.is_won.ensures c.if-is_won.true, rules)
 
 pub returns : goal.returns
-returns c = search (tried_not, not_won _ _ c.is_won.ensures c.if-is_won.false, rules)
+returns c = search (tried_not, not_two _ _ c.is_won.ensures c.if-is_won.false, rules)
