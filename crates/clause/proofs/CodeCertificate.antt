@@ -4,7 +4,7 @@ use native.Mathlib.Nat.{lt_of_lt_of_le}
 use native.Mathlib.Omega.{arith}
 use mathlib.Core.Path.{◌≡◌, refl, sym, ap, ap₂, subst, ◌∙◌}
 use mathlib.Core.Logic.{◌≢◌}
-use mathlib.Core.List.{List, [], ◌++◌}
+use mathlib.Core.List.{List, [], ◌++◌, ◌∷◌}
 use lib.ListN.{length, get_or, take, drop, length-take, take-append-drop}
 use lib.Pow.{pow_mono}
 use lib.Seq.{take-suc, take-take, get_or-take}
@@ -25,7 +25,7 @@ use Rattle.dropped.proofs.Winning.{inverse_places}
 use Rattle.stops.specs.Used.{used_mask}
 use Rattle.judging.specs.Judging.{walk_all}
 use Rattle.turns.specs.Turns.{turn_at, first_pair}
-use Rattle.turns.specs.Next.{pairs_after, starting_at, PairOrNone}
+use Rattle.turns.specs.Next.{pairs_after, starting_at}
 use Rattle.turns.proofs.NextLaws.{compared_first, compared_none, starting_here, starting_none}
 use Rattle.turns.proofs.Walks.{winning_first}
 use Rattle.stops.proofs.UsedLaws.{used_more, used_below}
@@ -72,22 +72,24 @@ used_done path i depth used e a c = let q : i ≡ depth = omega arith in e ∙ a
 
 -- ---- the first pair that does not go on
 
-module _ (t : Pair → ℕ) (after : Pair → List Pair) (i j : ℕ) (whole : Pair) (left : first_pair t (starting_at after (pair i j)) ≡ whole) where
-  module _ (some : i ≢ 0) (c : ℕ) (e : c ≡ t (pair i j)) where
-    -- the next one where the pair goes on
-    pub first_along : (row column : ℕ) → c ≡ 0 → after (pair i j) ≡ starting_at after (pair row column) → first_pair t (starting_at after (pair row column)) ≡ whole
-    unfolding first_pair pick
-    first_along row column z next = rw (starting_here after i j some, eq-eqb (t (pair i j)) 0 (sym e ∙ z), next) at left
+module _ (t : Pair → ℕ) (after : Pair → List Pair) (i j : ℕ) (whole : Pair) (left : first_pair t (starting_at after (pair i j)) ≡ whole) (some : 1 ≤ i) (c : ℕ) (e : c ≡ t (pair i j)) where
+  here : starting_at after (pair i j) ≡ pair i j ∷ after (pair i j)
+  here = starting_here after i j (λ z. omega arith)
 
-    -- the pair itself where it does not
-    pub first_here : c ≢ 0 → pair i j ≡ whole
-    unfolding first_pair pick
-    first_here d = rw (starting_here after i j some, ne_eqb (t (pair i j)) 0 (λ z. d (e ∙ z))) at left
+  -- the next one where the pair goes on
+  pub first_along : (next : Pair) → c ≡ 0 → after (pair i j) ≡ starting_at after next → first_pair t (starting_at after next) ≡ whole
+  unfolding first_pair pick
+  first_along next z is = rw (here, eq-eqb (t (pair i j)) 0 (sym e ∙ z), is) at left
 
-  -- none where no pair is left
-  pub first_over : i ≡ 0 → pair 0 0 ≡ whole
-  unfolding first_pair
-  first_over none = rw (starting_none after i j none) at left
+  -- the pair itself where it does not
+  pub first_here : c ≢ 0 → pair i j ≡ whole
+  unfolding first_pair pick
+  first_here d = rw (here, ne_eqb (t (pair i j)) 0 (λ z. d (e ∙ z))) at left
+
+-- none where no pair is left
+pub first_over : (t : Pair → ℕ) (after : Pair → List Pair) (whole : Pair) → first_pair t (starting_at after (pair 0 0)) ≡ whole → pair 0 0 ≡ whole
+unfolding first_pair
+first_over t after whole left = rw (starting_none after 0 0 refl) at left
 
 module _ (t : Pair → ℕ) (mode n : ℕ) where
   pub first_begins : 2 ≤ n → first_pair t (starting_at (pairs_after mode n) (pair 1 2)) ≡ first_pair t (compared_in mode n)
@@ -96,9 +98,6 @@ module _ (t : Pair → ℕ) (mode n : ℕ) where
   pub first_none : n < 2 → pair 0 0 ≡ first_pair t (compared_in mode n)
   unfolding first_pair
   first_none few = rw (compared_none mode n few)
-
-pub first_pair_lem : (n : ℕ) → 2 ≤ n → PairOrNone n 1 2
-first_pair_lem n two = record { between = λ d. omega arith }
 
 -- ---- where a certificate wins
 

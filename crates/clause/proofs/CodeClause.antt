@@ -43,21 +43,20 @@ module _ (buffer : List ℤ) (count m kind : ℕ) where
   pub puts_not : kind ≡ 1 → count < length buffer → m ≤ 496 → Wrote (written_for kind m) buffer count (set buffer count (to_z w32 (of_z w32 (pos 0 -ℤ to_z w32 m)))) (count + 1)
   unfolding written_for numbered
   puts_not e h small =
-      let one : written_for kind m ≡ neg_ℤ (pos m) ∷ [] = rw (eq-eqb kind 1 e) in
+      let one : written_for kind m ≡ neg_ℤ (pos m) ∷ [] = rw e in
       record { counted = rw one; written = rw (stored m small, one) (set_there (neg_ℤ (pos m)) h) }
 
-  module _ (other : kind ≢ 1) where
-    -- kind 2 puts m
-    pub puts_pair : kind ≡ 2 → count < length buffer → m ≤ 496 → Wrote (written_for kind m) buffer count (set buffer count (to_z w32 m)) (count + 1)
-    unfolding written_for numbered
-    puts_pair e h small =
-        let one : written_for kind m ≡ pos m ∷ [] = rw (ne_eqb kind 1 other, eq-eqb kind 2 e) in
-        record { counted = rw one; written = rw (as_signed m small, one) (set_there (pos m) h) }
+  -- kind 2 puts m
+  pub puts_pair : kind ≡ 2 → count < length buffer → m ≤ 496 → Wrote (written_for kind m) buffer count (set buffer count (to_z w32 m)) (count + 1)
+  unfolding written_for numbered
+  puts_pair e h small =
+      let one : written_for kind m ≡ pos m ∷ [] = rw e in
+      record { counted = rw one; written = rw (as_signed m small, one) (set_there (pos m) h) }
 
-    -- any other nothing
-    pub puts_none : kind ≢ 2 → Wrote (written_for kind m) buffer count buffer count
-    unfolding written_for numbered
-    puts_none e =
-        let none : written_for kind m ≡ [] = rw (ne_eqb kind 1 other, ne_eqb kind 2 e) in
-        let z : count + 0 ≡ count = omega arith in
-        record { counted = rw none (sym z); written = rw (none, z, append-nil (take count buffer)) (sym (take-append-drop count buffer)) }
+  -- kind 0 nothing
+  pub puts_none : kind ≡ 0 → Wrote (written_for kind m) buffer count buffer count
+  unfolding written_for numbered
+  puts_none e =
+      let none : written_for kind m ≡ [] = rw e in
+      let z : count + 0 ≡ count = omega arith in
+      record { counted = rw none (sym z); written = rw (none, z, append-nil (take count buffer)) (sym (take-append-drop count buffer)) }

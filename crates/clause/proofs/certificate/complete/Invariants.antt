@@ -4,6 +4,3 @@ use Rattle.clause.proofs.certificate.complete.Given as goal
 
 abbrev pub invariant-loop-d : goal.invariant-loop-d
 invariant-loop-d l = Completing l.n l.starts l.depth l.blocks l.initial.path l.path l.used l.d
-
-abbrev pub decreases-loop-d : goal.decreases-loop-d
-decreases-loop-d l = l.n - l.d

@@ -6,6 +6,3 @@ use Rattle.clause.proofs.certificate.used_mask.Given as goal
 
 abbrev pub invariant-loop-i : goal.invariant-loop-i
 invariant-loop-i l = (l.i ≤ l.depth) × (l.used ≡ used_mask (take l.i l.path))
-
-abbrev pub decreases-loop-i : goal.decreases-loop-i
-decreases-loop-i l = l.depth - l.i

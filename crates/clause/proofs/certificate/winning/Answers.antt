@@ -1,28 +1,27 @@
 use borrow.Author.Rules.{rules}
-use Rattle.turns.proofs.NextLaws.{spot_rising, spot_high, fewer_left}
-use Rattle.clause.proofs.CodeCertificate.{first_pair_lem, first_begins, first_along, first_here, first_over, first_none}
+use Rattle.turns.proofs.NextLaws.{fewer_left}
+use Rattle.turns.proofs.TurnCodes.{is_zero, not_zero}
+use Rattle.clause.proofs.CodeCertificate.{first_begins, first_along, first_here, first_over, first_none}
 use Rattle.clause.proofs.certificate.winning.Goals as goal
 
 pub returns-then-n-lt2 : goal.returns-then-n-lt2
-returns-then-n-lt2 c = search (first_none, rules)
+returns-then-n-lt2 c = (search (first_none, rules), search rules)
 
-pub loop-i-init : goal.loop-i-init
-loop-i-init c = (search (first_pair_lem, rules), search (first_begins, rules))
+pub loop-next-init : goal.loop-next-init
+loop-next-init c = (search rules, search (first_begins, rules))
 
-pub pair_turn-requires : goal.pair_turn-requires
-pair_turn-requires c = (search rules, search rules, search rules, search (spot_rising, rules), search (spot_high, rules))
+pub returns-then-not-is_open : goal.returns-then-not-is_open
+returns-then-not-is_open c = (search (first_here, not_zero _ _ c.is_open.ensures c.if-not-is_open.true, rules), search rules)
 
-pub returns-then-pair_turn-ne0 : goal.returns-then-pair_turn-ne0
-returns-then-pair_turn-ne0 c = search (first_here, rules)
+pub loop-next-smaller : goal.loop-next-smaller
+loop-next-smaller c = search (fewer_left, rules)
 
-pub next_pair-next-requires : goal.next_pair-next-requires
-next_pair-next-requires c = (search rules, search (spot_rising, rules), search (spot_high, rules), search rules)
-
-pub loop-i-smaller : goal.loop-i-smaller
-loop-i-smaller c = search (fewer_left, rules)
-
-pub loop-i-preserved : goal.loop-i-preserved
-loop-i-preserved c = (search rules, search (first_along, rules))
+pub loop-next-preserved : goal.loop-next-preserved
+loop-next-preserved c = (
+  search rules,
+  first_along _ _ _ _ _ (rw c.in-Some.is at c.loop-next.invariant.1) (search rules) _ c.pair_turn-turn.ensures _
+      (is_zero _ _ c.is_open.ensures c.if-not-is_open.false) c.next_pair-next.ensures.0,
+)
 
 pub returns : goal.returns
-returns c = search (first_over, rules)
+returns c = (search (first_over, rules), search rules)

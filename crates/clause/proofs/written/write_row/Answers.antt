@@ -12,7 +12,7 @@ pub overflow_add-m : goal.overflow_add-m
 overflow_add-m c = search (number_fits, rules)
 
 pub kind_at-kind-requires : goal.kind_at-kind-requires
-kind_at-kind-requires c = (search rules, search rules, search rules, search rules, search rules, search (column_after, rules), search (column_in_lem, rules))
+kind_at-kind-requires c = (search rules, search rules, search rules, search (column_after, rules), search (column_in_lem, rules))
 
 pub put-written-requires : goal.put-written-requires
 put-written-requires c = (search (room_left, rules), search (number_small, rules))

@@ -6,7 +6,7 @@ use Rattle.clause.proofs.Writing.{Along}
 use Rattle.clause.proofs.written.write_row.Given as goal
 
 abbrev pub invariant-loop-left : goal.invariant-loop-left
-invariant-loop-left l = Along (kind_at (before_in l.mode) l.edges l.unknowns l.places (pair l.row l.column) l.without.pair l.without.image) l.n l.i l.count l.initial.literals l.literals l.left l.j l.m l.written
+invariant-loop-left l = Along (kind_at (before_in l.win.mode) l.win.path.rows.edges.now l.win.path.rows.unknowns.now l.win.path.places.now (pair l.win.at.row l.win.at.column) l.without.pair l.without.image) l.win.order l.i l.count l.initial.literals l.literals l.left l.j l.m l.written
 
 abbrev pub decreases-loop-left : goal.decreases-loop-left
-decreases-loop-left l = l.n + 1 - l.j
+decreases-loop-left l = l.win.order + 1 - l.j
