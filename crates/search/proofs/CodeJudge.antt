@@ -1,5 +1,5 @@
 -- What the code of judging comes to.
-use Prim.Native.Nat.{ℕ, zero, suc, ◌-◌, ◌≤◌}
+use Prim.Native.Nat.{ℕ, zero, suc, ◌-◌, ◌≤◌, ◌<◌}
 use native.Mathlib.Omega.{arith}
 use mathlib.Core.Path.{◌≡◌, refl, sym, ap, ◌∙◌}
 use mathlib.Core.Bool.{Bool, true, false}
@@ -8,7 +8,7 @@ use lib.Dec.{eqb, leb}
 use lib.IntN.{ℤ}
 use lib.ListN.{length, take, drop, replicate}
 use lib.Seq.{length-take-le}
-use borrow.Author.Tests.{eq-eqb, ne_eqb, leb-true}
+use borrow.Author.Tests.{eq-eqb, ne_eqb, le-leb, lt-leb}
 use Rattle.laws.specs.Test.{either, pick}
 use Rattle.laws.specs.TestLaws.{refused, passed}
 use Rattle.walk.specs.Walk.{won}
@@ -32,18 +32,19 @@ use Rattle.graph.specs.Counts.{entry_at}
 use Rattle.graph.proofs.Formed.{formed}
 use Rattle.arrangements.proofs.Permits.{permitted, permitted_tested, reordering_tested}
 use Rattle.judging.specs.declared.Verdict.TheVariants.{Smaller, Nothing, Cut, Refused}
-use Rattle.exploring.specs.declared.explore.Explored.{Explored}
 use Rattle.judging.specs.declared.Judged.{Judged}
 use Rattle.judging.specs.Judging.{walk_all, clause_of, judged, found, padded, certificate_of}
 use Rattle.judging.specs.Answer.{without, winning_pair, smaller, answer_for, is_mode, judge_answer, at_start, judge_buffer}
 use Rattle.composing.specs.Composed.{inverse}
 use Rattle.turns.specs.Turns.{turn_at, first_pair, Places}
-use Rattle.exploring.specs.Found.{found_by}
 use Rattle.graph.specs.Graph.{graph_of}
 use Rattle.judging.proofs.Arrangements.{padded_permitted}
+use Rattle.std.specs.Prelude.{Result, Err}
+use Rattle.refusal.specs.declared.Refusal.{Refusal}
+use Rattle.refusal.specs.declared.Refusal.TheVariants.{LiteralRoom, Malformed, Mode}
+use Rattle.search.specs.Told.{told}
 use Rattle.search.specs.Won.{IsWon}
-use Rattle.search.specs.Fault.{fault_of}
-use Rattle.dropped.proofs.Winning.{inverse_places}
+use Rattle.dropped.proofs.Winning.{inverse_places, row_low}
 use Rattle.clause.proofs.CodeCertificate.{wins_there}
 use Rattle.judging.proofs.Certificates.{certificate_walk}
 
@@ -100,6 +101,9 @@ module _ (n : ℕ) (es us : List ℕ) (starts : ℕ) (w : well_formed (graph_of 
       pub wins_at : walk_all mode (graph_of n es us starts) path ≡ won (pair row column)
       wins_at = wins_there mode (graph_of n es us starts) (formed (graph_of n es us starts) w) path places is_arrangement q o.pair o.at row column s
 
+      pub wins_low : 1 ≤ row
+      wins_low = row_low (record { well = w; fits = p; inverts = q; wins = wins_at })
+
       pub smaller_is : (steps count : ℕ) → count ≡ length (clause_of mode (graph_of n es us starts) path)
           → ◌≡◌ {A = Judged} (record { verdict = Smaller row column steps; arrangement = path; literals = count }) (smaller mode (graph_of n es us starts) path steps)
       unfolding smaller winning_pair
@@ -107,40 +111,27 @@ module _ (n : ℕ) (es us : List ℕ) (starts : ℕ) (w : well_formed (graph_of 
 
 -- ---- from the search to the answer
 
-module _ (mode : ℕ) (g : Graph) (budget : ℕ) (e : Explored) (path : List ℕ) (f : found_by e path ≡ found mode g budget) where
-  found_none : e.kind ≡ 0 → found mode g budget ≡ none e.steps
-  unfolding found_by pick
-  found_none k = sym (rw (eq-eqb e.kind 0 k) at f)
+module _ (mode : ℕ) (g : Graph) (budget : ℕ) (r : Judged) where
+  pub answers_none : (steps : ℕ) → none steps ≡ found mode g budget → r ≡ without (Nothing steps) → r ≡ answer_for mode g budget (found mode g budget)
+  unfolding answer_for
+  answers_none steps f q = rw (sym f) q
 
-  found_first : e.kind ≡ 1 → found mode g budget ≡ first (take e.depth path) e.steps
-  unfolding found_by pick
-  found_first k = sym (rw (ne_eqb e.kind 0 (λ z. omega arith), eq-eqb e.kind 1 k) at f)
+  pub answers_cut : cut ≡ found mode g budget → r ≡ without (Cut budget) → r ≡ answer_for mode g budget (found mode g budget)
+  unfolding answer_for
+  answers_cut f q = rw (sym f) q
 
-  found_cut : (e.kind ≡ 0 → ⊥) → (e.kind ≡ 1 → ⊥) → found mode g budget ≡ cut
-  unfolding found_by pick
-  found_cut k l = sym (rw (ne_eqb e.kind 0 k, ne_eqb e.kind 1 l) at f)
+  pub answers_first : (b : List ℕ) (steps : ℕ) → first b steps ≡ found mode g budget → r ≡ smaller mode g (certificate_of g b) steps → r ≡ answer_for mode g budget (found mode g budget)
+  unfolding answer_for
+  answers_first b steps f q = rw (sym f) q
 
-  module _ (r : Judged) where
-    pub answers_none : e.kind ≡ 0 → r ≡ without (Nothing e.steps) → r ≡ answer_for mode g budget (found mode g budget)
-    unfolding answer_for
-    answers_none k q = rw (found_none k) q
+module _ (mode : ℕ) (g : Graph) (budget : ℕ) (b : List ℕ) (steps : ℕ) (f : first b steps ≡ found mode g budget) where
+  pub found_begins : Beginning g.order (block_of g.starts) b
+  unfolding Judging.found
+  found_begins = (found_reached g.order (block_of g.starts) (judged mode g) budget b steps (sym f)).0.beginning
 
-    pub answers_cut : (e.kind ≡ 0 → ⊥) → (e.kind ≡ 1 → ⊥) → r ≡ without (Cut budget) → r ≡ answer_for mode g budget (found mode g budget)
-    unfolding answer_for
-    answers_cut k l q = rw (found_cut k l) q
-
-    pub answers_first : e.kind ≡ 1 → r ≡ smaller mode g (certificate_of g (take e.depth path)) e.steps → r ≡ answer_for mode g budget (found mode g budget)
-    unfolding answer_for
-    answers_first k q = rw (found_first k) q
-
-  module _ (k : e.kind ≡ 1) where
-    pub found_begins : Beginning g.order (block_of g.starts) (take e.depth path)
-    unfolding Judging.found
-    found_begins = (found_reached g.order (block_of g.starts) (judged mode g) budget (take e.depth path) e.steps (found_first k)).0.beginning
-
-    pub found_won : judged mode g (take e.depth path) ≡ Search.won
-    unfolding Judging.found
-    found_won = (found_reached g.order (block_of g.starts) (judged mode g) budget (take e.depth path) e.steps (found_first k)).1
+  pub found_won : judged mode g b ≡ Search.won
+  unfolding Judging.found
+  found_won = (found_reached g.order (block_of g.starts) (judged mode g) budget b steps (sym f)).1
 
 -- ---- the buffer
 
@@ -165,17 +156,8 @@ smaller_buffer mode g p steps r before after e h = rw e h
 
 -- ---- the refusals
 
-pub room_is : (n pairs room : ℕ) → pairs ≡ pair_count n → leb pairs room ≡ leb (pair_count n) room
-room_is n pairs room e = ap (λ (x : ℕ). leb x room) e
-
-pub room_known : (n room : ℕ) (b : Bool) → b ≡ leb (pair_count n) room → b ≡ true → pair_count n ≤ room
-room_known n room b e h = leb-true (pair_count n) room (sym e ∙ h)
-
-pub mode_known : (mode : ℕ) (b : Bool) → b ≡ is_mode mode → b ≡ true → is_mode mode ≡ true
-mode_known mode b e h = sym e ∙ h
-
 -- the test of the mode
-pub mode_rows : (mode : ℕ) → mode ≡ 1 → true ≡ is_mode mode
+pub mode_rows : (mode : ℕ) → mode ≡ 1 → eqb mode 1 ≡ is_mode mode
 unfolding is_mode either
 mode_rows mode e = rw (eq-eqb mode 1 e)
 
@@ -190,70 +172,34 @@ module _ (mode : ℕ) (g : Graph) (budget : ℕ) (buffer : List ℤ) where
   unfolding judge_buffer
   by_answer r after q h = (q, h ∙ ap (λ (x : Judged). at_start x.verdict (clause_of mode g x.arrangement) buffer) q)
 
-  pub answers_unknown : (b : Bool) → b ≡ is_mode mode → (r : Judged) → b ≡ false → r ≡ without (Refused 16 0) → (r ≡ judge_answer mode g budget (length buffer)) × (buffer ≡ judge_buffer mode g budget buffer)
+  pub answers_unknown : (r : Result Judged Refusal) → r ≡ Err Mode → is_mode mode ≡ false → (told r ≡ judge_answer mode g budget (length buffer)) × (buffer ≡ judge_buffer mode g budget buffer)
   unfolding judge_answer
-  answers_unknown b e r h q = by_answer r buffer (refused b (is_mode mode) r _ _ e h q) (refused_buffer mode g r 16 0 buffer q)
+  answers_unknown r i e = by_answer _ buffer (refused false (is_mode mode) _ _ _ (sym e) refl (ap told i)) (refused_buffer mode g _ 16 0 buffer (ap told i))
 
   module _ (m : is_mode mode ≡ true) where
-    module _ (w : well_formed g ≡ true) (c : Bool) (f : c ≡ leb (pair_count g.order) (length buffer)) (r : Judged) where
-      pub answers_cramped : c ≡ false → r ≡ without (Refused 5 0) → (r ≡ judge_answer mode g budget (length buffer)) × (buffer ≡ judge_buffer mode g budget buffer)
-      unfolding judge_answer
-      answers_cramped k q =
-          by_answer r buffer (passed true (is_mode mode) r _ _ (sym m) refl (passed true (well_formed g) r _ _ (sym w) refl (refused c (leb (pair_count g.order) (length buffer)) r _ _ f k q)))
-          (refused_buffer mode g r 5 0 buffer q)
+    pub answers_malformed : (r : Result Judged Refusal) → r ≡ Err Malformed → well_formed g ≡ false → (told r ≡ judge_answer mode g budget (length buffer)) × (buffer ≡ judge_buffer mode g budget buffer)
+    unfolding judge_answer
+    answers_malformed r i e =
+        by_answer _ buffer (passed true (is_mode mode) _ _ _ (sym m) refl (refused false (well_formed g) _ _ _ (sym e) refl (ap told i)))
+        (refused_buffer mode g _ 8 0 buffer (ap told i))
 
-      pub answers_judged : (after : List ℤ) → c ≡ true → r ≡ answer_for mode g budget (found mode g budget) → after ≡ at_start r.verdict (clause_of mode g r.arrangement) buffer
+    module _ (w : well_formed g ≡ true) where
+      pub answers_cramped : (r : Result Judged Refusal) → r ≡ Err LiteralRoom → length buffer < pair_count g.order → (told r ≡ judge_answer mode g budget (length buffer)) × (buffer ≡ judge_buffer mode g budget buffer)
+      unfolding judge_answer
+      answers_cramped r i k =
+          by_answer _ buffer
+          (passed true (is_mode mode) _ _ _ (sym m) refl
+          (passed true (well_formed g) _ _ _ (sym w) refl (refused false (leb (pair_count g.order) (length buffer)) _ _ _ (sym (lt-leb (pair_count g.order) (length buffer) k)) refl (ap told i))))
+          (refused_buffer mode g _ 5 0 buffer (ap told i))
+
+      pub answers_judged : (r : Judged) (after : List ℤ) → pair_count g.order ≤ length buffer → r ≡ answer_for mode g budget (found mode g budget) → after ≡ at_start r.verdict (clause_of mode g r.arrangement) buffer
           → (r ≡ judge_answer mode g budget (length buffer)) × (after ≡ judge_buffer mode g budget buffer)
       unfolding judge_answer
-      answers_judged after k q z =
-          by_answer r after (passed true (is_mode mode) r _ _ (sym m) refl (passed true (well_formed g) r _ _ (sym w) refl (passed c (leb (pair_count g.order) (length buffer)) r _ _ f k q))) z
-
--- ---- the first fault
-
-module _ (known formed : Bool) where
-  pub no_fault : known ≡ true → formed ≡ true → 0 ≡ fault_of known formed
-  unfolding fault_of pick
-  no_fault k f = rw (k, f)
-
-  pub graph_fault : known ≡ true → formed ≡ false → 8 ≡ fault_of known formed
-  unfolding fault_of pick
-  graph_fault k f = rw (k, f)
-
-  pub mode_fault : known ≡ false → 16 ≡ fault_of known formed
-  unfolding fault_of pick
-  mode_fault k = rw k
-
--- by the tests
-module _ (mode : ℕ) (g : Graph) (known formed : Bool) (fault : ℕ) (pk : known ≡ is_mode mode) (pf : formed ≡ well_formed g) (is : fault ≡ fault_of known formed) where
-  by_tests : fault ≡ fault_of (is_mode mode) (well_formed g)
-  by_tests = is ∙ rw (pk, pf)
-
-  pub faultless_mode : fault ≡ 0 → is_mode mode ≡ true
-  unfolding fault_of pick
-  faultless_mode z = at (is_mode mode) by_tests
-    where
-      at : (m : Bool) → fault ≡ fault_of m (well_formed g) → m ≡ true
-      at true e = refl
-      at false e = absurd (omega arith)
-
-  pub faultless_graph : fault ≡ 0 → well_formed g ≡ true
-  unfolding fault_of pick
-  faultless_graph z = at (is_mode mode) (well_formed g) by_tests
-    where
-      at : (m w : Bool) → fault ≡ fault_of m w → w ≡ true
-      at m true e = refl
-      at true false e = absurd (omega arith)
-      at false false e = absurd (omega arith)
-
-  -- it is the answer
-  pub answers_fault : (budget : ℕ) (buffer : List ℤ) (r : Judged) → (fault ≡ 0 → ⊥) → r ≡ without (Refused fault 0) → (r ≡ judge_answer mode g budget (length buffer)) × (buffer ≡ judge_buffer mode g budget buffer)
-  unfolding fault_of pick judge_answer
-  answers_fault budget buffer r n q = by_answer mode g budget buffer r buffer (at (is_mode mode) (well_formed g) refl refl by_tests) (refused_buffer mode g r fault 0 buffer q)
-    where
-      at : (m w : Bool) → is_mode mode ≡ m → well_formed g ≡ w → fault ≡ fault_of m w → r ≡ judge_answer mode g budget (length buffer)
-      at true true d f e = absurd (n e)
-      at true false d f e = passed true (is_mode mode) r _ _ (sym d) refl (refused false (well_formed g) r _ _ (sym f) refl (q ∙ rw e))
-      at false w d f e = refused false (is_mode mode) r _ _ (sym d) refl (q ∙ rw e)
+      answers_judged r after k q z =
+          by_answer r after
+          (passed true (is_mode mode) r _ _ (sym m) refl
+          (passed true (well_formed g) r _ _ (sym w) refl (passed true (leb (pair_count g.order) (length buffer)) r _ _ (sym (le-leb (pair_count g.order) (length buffer) k)) refl q)))
+          z
 
 -- the places after n of a path that began as zeros
 zeros_after : (m n : ℕ) → drop {A = ℕ} n (replicate m 0) ≡ replicate (m - n) 0

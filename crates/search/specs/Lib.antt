@@ -1,2 +1,2 @@
 pub mod Won
-pub mod Fault
+pub mod Told

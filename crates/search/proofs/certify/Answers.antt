@@ -7,7 +7,7 @@ pub complete-requires : goal.complete-requires
 complete-requires c = (search rules, search order_bounded, search (taken_long, rules), search rules, search rules, search rules)
 
 pub tell_smaller-requires : goal.tell_smaller-requires
-tell_smaller-requires c = (search rules, search rules, search (certificate_tested, rules), search (certificate_wins, rules))
+tell_smaller-requires c = (search rules, search (certificate_tested, rules), search (certificate_wins, rules))
 
 pub returns : goal.returns
 returns c = (search (certified_is, rules), search (clause_is, rules))

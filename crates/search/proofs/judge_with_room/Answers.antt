@@ -1,28 +1,37 @@
 use borrow.Author.Rules.{rules}
+use Rattle.graph.specs.Lent.{lent}
 use Rattle.exploring.proofs.CodeSearch.{order_bounded}
-use Rattle.graph.specs.Graph.{graph_of}
 use Rattle.search.proofs.CodeJudge.{still_zeros, found_begins, found_won, answers_none, answers_cut, answers_first, none_buffer, cut_buffer, smaller_buffer}
 use Rattle.search.proofs.judge_with_room.Goals as goal
 
 pub block_masks-blocks-requires : goal.block_masks-blocks-requires
-block_masks-blocks-requires c = search order_bounded
+block_masks-blocks-requires c = order_bounded _ _ _ _ c.args.formed.formed
 
 pub certify-requires : goal.certify-requires
 certify-requires c =
-    let end = c.explore-end in
-    let start = c.args in
-    let graph = graph_of start.n start.edges.now start.unknowns.now start.starts in
-    (search rules, search rules, search rules, search rules, found_begins _ graph _ end.result _ end.ensures.0 c.if-kind-eq1.true, found_won _ graph _ end.result _ end.ensures.0 c.if-kind-eq1.true, search still_zeros)
+    let found = rw c.in-Won.is at c.explore-end.ensures.0 in (
+      search rules,
+      search rules,
+      rw c.in-Won.is at c.explore-end.ensures.2,
+      found_begins _ _ _ _ _ found,
+      found_won _ _ _ _ _ found,
+      search still_zeros,
+    )
 
-pub returns-then-kind-eq1 : goal.returns-then-kind-eq1
-returns-then-kind-eq1 c = (search answers_first, search smaller_buffer)
+pub returns-in-Won : goal.returns-in-Won
+returns-in-Won c = (
+  answers_first _ _ _ _ _ _ (rw c.in-Won.is at c.explore-end.ensures.0) c.certify.ensures.0,
+  smaller_buffer _ _ _ _ _ _ _ c.certify.ensures.0 c.certify.ensures.1,
+)
 
-pub returns-then-kind-eq0 : goal.returns-then-kind-eq0
-returns-then-kind-eq0 c =
-    let end = c.explore-end in
-    (answers_none _ _ _ end.result _ end.ensures.0 _ c.if-kind-eq0.true c.bare.ensures, search none_buffer)
+pub returns-in-Nothing : goal.returns-in-Nothing
+returns-in-Nothing c = (
+  answers_none _ (lent c.args.formed.graph) _ _ _ (rw c.in-Nothing.is at c.explore-end.ensures.0) c.bare.ensures,
+  none_buffer _ (lent c.args.formed.graph) _ _ _ c.bare.ensures,
+)
 
-pub returns : goal.returns
-returns c =
-    let end = c.explore-end in
-    (answers_cut _ _ _ end.result _ end.ensures.0 _ c.if-kind-eq0.false c.if-kind-eq1.false c.bare-2.ensures, search cut_buffer)
+pub returns-in-Cut : goal.returns-in-Cut
+returns-in-Cut c = (
+  answers_cut _ (lent c.args.formed.graph) _ _ (rw c.in-Cut.is at c.explore-end.ensures.0) c.bare-in-Cut.ensures,
+  cut_buffer _ (lent c.args.formed.graph) _ _ _ c.bare-in-Cut.ensures,
+)

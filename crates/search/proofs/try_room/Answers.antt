@@ -1,0 +1,15 @@
+use borrow.Author.Rules.{rules}
+use Rattle.graph.specs.Lent.{lent}
+use Rattle.graph.proofs.Formed.{formed}
+use Rattle.search.proofs.CodeJudge.{answers_judged, answers_cramped}
+use Rattle.search.proofs.try_room.Goals as goal
+
+pub check_room-requires : goal.check_room-requires
+check_room-requires c = let w = formed _ c.args.formed.formed in (w.order_low, w.order_high)
+
+pub returns-in_err-check_room : goal.returns-in_err-check_room
+returns-in_err-check_room c = answers_cramped _ (lent c.args.formed.graph) _ c.args.literals.now c.requires c.args.formed.formed c.from_residual.result (search rules) (search rules)
+
+pub returns : goal.returns
+returns c =
+    answers_judged _ _ c.args.budget _ c.requires c.args.formed.formed _ _ (search rules) c.judge_with_room.ensures.0 c.judge_with_room.ensures.1
