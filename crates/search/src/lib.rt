@@ -2,7 +2,7 @@
 
 #![tactic(auto)]
 
-ghost use Rattle.std.specs.Prelude.{◌≡◌, true, false, ◌++◌, ◌-◌, ◌≤◌, ◌<◌, length, take, drop, replicate, MatchResult};
+ghost use Rattle.std.specs.Prelude.{◌≡◌, true, ◌++◌, ◌-◌, ◌≤◌, ◌<◌, length, take, drop, replicate, MatchResult};
 ghost use Rattle.beginnings.specs.Beginning.{Beginning};
 ghost use Rattle.beginnings.specs.Search.{won};
 ghost use Rattle.words.specs.Placed.{placed};
@@ -57,17 +57,6 @@ fn is_mode(mode: u32) -> bool
     ensures { result ≡ is_mode mode }
 {
     mode == 1 || mode == 2
-}
-
-// Refuses what is no mode.
-fn check_mode(mode: u32) -> Result<(), Refusal>
-    ensures { MatchResult result (λ _. is_mode mode ≡ true) (λ e. (is_mode mode ≡ false) × (e ≡ Refusal.Mode)) }
-{
-    if is_mode(mode) {
-        Ok(())
-    } else {
-        Err(Refusal::Mode)
-    }
 }
 
 // Refuses a buffer that does not hold a literal for each pair.
@@ -186,8 +175,10 @@ fn try_formed(
 ) -> Result<Judged, Refusal>
     ensures { (told result ≡ judge_answer mode (lent formed.entry.graph) budget (length literals.old)) × (literals.new ≡ judge_buffer mode (lent formed.entry.graph) budget literals.old) }
 {
-    check_mode(mode)?;
-    try_room(mode, formed, budget, literals)
+    if is_mode(mode) {
+        return try_room(mode, formed, budget, literals);
+    }
+    Err(Refusal::Mode)
 }
 
 // The answer for any graph whose rows are lent, or the refusal.
@@ -199,9 +190,10 @@ fn try_rows(
 ) -> Result<Judged, Refusal>
     ensures { (told result ≡ judge_answer mode (lent graph.entry) budget (length literals.old)) × (literals.new ≡ judge_buffer mode (lent graph.entry) budget literals.old) }
 {
-    check_mode(mode)?;
-    let formed = graph.formed()?;
-    try_room(mode, formed, budget, literals)
+    if !is_mode(mode) {
+        return Err(Refusal::Mode);
+    }
+    try_room(mode, graph.formed()?, budget, literals)
 }
 
 // Judges a graph as `judge` does, where it is known to be well formed.
