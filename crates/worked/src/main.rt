@@ -12,7 +12,7 @@ use judging::Judged;
 use show::{byte, filled, from_column, text};
 use std::io;
 use std::io::Print;
-use tables::{byte_at, digit_at, hex_at, row_end};
+use tables::{byte_at, digit_at, hex_at, for_each_row};
 use text::parts::first_bytes;
 
 // ---- what a row holds
@@ -184,21 +184,8 @@ fn case(to: &impl Print, row: &[u8]) -> io::Result<()> {
     }
 }
 
-fn cases(to: &impl Print, table: &[u8]) -> io::Result<()> {
-    let mut at = 0;
-    while at < table.len() {
-        let end = row_end(table, at);
-        if table.len() <= end {
-            return Ok(());
-        }
-        case(to, &table[at..end])?;
-        at = end + 1;
-    }
-    Ok(())
-}
-
 fn main(rt: HostRuntime) -> io::Result<()> {
     let mut table = [0u8; 65536];
     let given = read_full(&mut rt.reader(), &mut table)?;
-    cases(&rt, &table[..given])
+    for_each_row(&table[..given], |row| case(&rt, row))
 }
