@@ -11,7 +11,7 @@ use show::{byte, filled, from_column, text};
 use std::io;
 use std::io::Print;
 use tables::{byte_at, digit_at, for_each_row, hex_at};
-use text::parts::first_bytes;
+use text::parts::first;
 
 // ---- what a row holds
 
@@ -103,7 +103,7 @@ fn case(to: &impl Print, row: &[u8]) -> io::Result<()> {
     from_column(to, row, 36)?;
     text(to, b":")?;
     let whole = bytes(row);
-    let given = first_bytes(&whole, hex_at(row, 2, 3) as usize);
+    let given = first(&whole, hex_at(row, 2, 3) as usize);
     show(to, row[0], given, hex_at(row, 17, 16), digit_at(row, 34))
 }
 

@@ -13,7 +13,7 @@ use show::{byte, filled, from_column, text};
 use std::io;
 use std::io::Print;
 use tables::{byte_at, digit_at, hex_at, for_each_row};
-use text::parts::first_bytes;
+use text::parts::first;
 
 // ---- what a row holds
 
@@ -173,7 +173,7 @@ fn case(to: &impl Print, row: &[u8]) -> io::Result<()> {
     from_column(to, row, 32)?;
     text(to, b":")?;
     let whole = bytes(row);
-    let given = first_bytes(&whole, hex_at(row, 2, 2) as usize);
+    let given = first(&whole, hex_at(row, 2, 2) as usize);
     let kind = row[0];
     match kind {
         b'r' => read(to, given),
