@@ -1,7 +1,8 @@
 // The fields of a line.
+ghost use Rattle.std.specs.Prelude.{◌≡◌, []};
 ghost use Rattle.text.specs.Decimal.{decimal};
 ghost use Rattle.text.specs.Writer.{Puts};
-ghost use Rattle.line.specs.Line.{spaced};
+ghost use Rattle.line.specs.Line.{spaced, line_of};
 ghost use Rattle.line.specs.Fields.{shown};
 
 use text::decimal::Number;
@@ -29,6 +30,22 @@ fn put_number(writer: &mut Writer<'_>, number: u32)
 }
 
 impl<'a> Fields<'a> {
+    // Without a winning pair.
+    pub fn bare(number: u32, order: u32, verdict: &'a [u8], row: u32, steps: u32) -> Fields<'a>
+        ensures { shown result ≡ line_of number order verdict.now row 0 steps [] [] }
+    {
+        Fields {
+            number,
+            order,
+            verdict,
+            row,
+            column: 0,
+            steps,
+            arrangement: &[],
+            clause: &[],
+        }
+    }
+
     // The line.
     pub fn put_to(self, writer: &mut Writer<'_>)
         ensures { Puts writer.old (shown self.entry) writer.new }

@@ -27,42 +27,20 @@ pub fn header(out: &mut [u8]) -> usize
 fn fields_of<'a>(number: u32, order: u32, judged: &'a Judged, literals: &'a [i32]) -> Fields<'a>
     ensures { shown result ≡ judged_line number order judged.now literals.now }
 {
-    let bare = Fields {
-        number,
-        order,
-        verdict: b"",
-        row: 0,
-        column: 0,
-        steps: 0,
-        arrangement: &[],
-        clause: &[],
-    };
     match judged.verdict {
         Verdict::Smaller { row, column, steps } => Fields {
+            number,
+            order,
             verdict: b"smaller",
             row,
             column,
             steps,
             arrangement: first(&judged.arrangement, order as usize),
             clause: first(literals, judged.literals),
-            ..bare
         },
-        Verdict::Nothing { steps } => Fields {
-            verdict: b"none",
-            steps,
-            ..bare
-        },
-        Verdict::Cut { steps } => Fields {
-            verdict: b"cut",
-            steps,
-            ..bare
-        },
-        Verdict::Refused { number: row, .. } => Fields {
-            order: 0,
-            verdict: b"refused",
-            row,
-            ..bare
-        },
+        Verdict::Nothing { steps } => Fields::bare(number, order, b"none", 0, steps),
+        Verdict::Cut { steps } => Fields::bare(number, order, b"cut", 0, steps),
+        Verdict::Refused { number: row, .. } => Fields::bare(number, 0, b"refused", row, 0),
     }
 }
 

@@ -8,12 +8,12 @@ returns-in-Smaller c = rw (c.in-Smaller.is, c.first.ensures, c.first-in-Smaller.
 
 pub returns-in-Nothing : goal.returns-in-Nothing
 unfolding bytes_of judged_line verdict_line
-returns-in-Nothing c = rw c.in-Nothing.is
+returns-in-Nothing c = rw c.in-Nothing.is c.bare.ensures
 
 pub returns-in-Cut : goal.returns-in-Cut
 unfolding bytes_of judged_line verdict_line
-returns-in-Cut c = rw c.in-Cut.is
+returns-in-Cut c = rw c.in-Cut.is c.bare-in-Cut.ensures
 
 pub returns-in-Refused : goal.returns-in-Refused
 unfolding bytes_of judged_line verdict_line
-returns-in-Refused c = rw c.in-Refused.is
+returns-in-Refused c = rw c.in-Refused.is c.bare-in-Refused.ensures
