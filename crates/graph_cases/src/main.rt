@@ -12,7 +12,7 @@ use refusal::Refusal;
 use show::{from_column, text};
 use std::io;
 use std::io::Print;
-use tables::{digit_at, row_end};
+use tables::{digit_at, for_each_row};
 
 // ---- what a row holds
 
@@ -164,21 +164,8 @@ fn case(to: &impl Print, row: &[u8]) -> io::Result<()> {
 
 // ---- the cases
 
-fn cases(to: &impl Print, table: &[u8]) -> io::Result<()> {
-    let mut at = 0;
-    while at < table.len() {
-        let end = row_end(table, at);
-        if table.len() <= end {
-            return Ok(());
-        }
-        case(to, &table[at..end])?;
-        at = end + 1;
-    }
-    Ok(())
-}
-
 fn main(rt: HostRuntime) -> io::Result<()> {
     let mut table = [0u8; 65536];
     let given = read_full(&mut rt.reader(), &mut table)?;
-    cases(&rt, &table[..given])
+    for_each_row(&table[..given], |row| case(&rt, row))
 }

@@ -1,2 +1,3 @@
 pub mod Line
+pub mod Fields
 pub mod Shown

@@ -32,15 +32,13 @@ fn show_two(
     second: u32,
 ) -> io::Result<usize> {
     let two = take_two(bytes, place, first, second);
-    filled(
-        to,
-        b"reader at # of # bytes",
-        [place as u64, bytes.len() as u64, 0, 0, 0, 0],
-    )?;
+    let length = bytes.len();
+    print!(to; "reader at {place} of {length} bytes")?;
     show_field(to, first, two.first)?;
     show_field(to, second, two.second)?;
-    filled(to, b"; reader at #\n", [two.next as u64, 0, 0, 0, 0, 0])?;
-    Ok(two.next)
+    let next = two.next;
+    print!(to; "; reader at {next}\n")?;
+    Ok(next)
 }
 
 fn main(rt: HostRuntime) -> io::Result<()> {

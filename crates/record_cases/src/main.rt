@@ -10,8 +10,8 @@ use input::read_full;
 use show::{byte, filled, from_column, text};
 use std::io;
 use std::io::Print;
-use tables::{byte_at, digit_at, hex_at, row_end};
-use text::parts::first_bytes;
+use tables::{byte_at, digit_at, for_each_row, hex_at};
+use text::parts::first;
 
 // ---- what a row holds
 
@@ -29,11 +29,7 @@ fn bytes(row: &[u8]) -> [u8; 130] {
 
 // The first row stands for the graph's rows.
 fn show_rows(to: &impl Print, edges: u32, unknowns: u32, rest: usize) -> io::Result<()> {
-    filled(
-        to,
-        b" edges # unknowns # rest #\n",
-        [edges as u64, unknowns as u64, rest as u64, 0, 0, 0],
-    )
+    print!(to; " edges {edges} unknowns {unknowns} rest {rest}\n")
 }
 
 fn read(to: &impl Print, bytes: &[u8]) -> io::Result<()> {
@@ -107,27 +103,14 @@ fn case(to: &impl Print, row: &[u8]) -> io::Result<()> {
     from_column(to, row, 36)?;
     text(to, b":")?;
     let whole = bytes(row);
-    let given = first_bytes(&whole, hex_at(row, 2, 3) as usize);
+    let given = first(&whole, hex_at(row, 2, 3) as usize);
     show(to, row[0], given, hex_at(row, 17, 16), digit_at(row, 34))
 }
 
 // ---- the cases
 
-fn cases(to: &impl Print, table: &[u8]) -> io::Result<()> {
-    let mut at = 0;
-    while at < table.len() {
-        let end = row_end(table, at);
-        if table.len() <= end {
-            return Ok(());
-        }
-        case(to, &table[at..end])?;
-        at = end + 1;
-    }
-    Ok(())
-}
-
 fn main(rt: HostRuntime) -> io::Result<()> {
     let mut table = [0u8; 65536];
     let given = read_full(&mut rt.reader(), &mut table)?;
-    cases(&rt, &table[..given])
+    for_each_row(&table[..given], |row| case(&rt, row))
 }

@@ -17,33 +17,17 @@ pub fn byte(out: &impl Print, b: u8) -> io::Result<()> {
 
 // A row of a table from a column on.
 pub fn from_column(out: &impl Print, row: &[u8], column: usize) -> io::Result<()> {
-    if column < row.len() {
-        text(out, &row[column..])?;
-    }
-    Ok(())
-}
-
-// The value at an index, if there is one.
-fn value(out: &impl Print, values: [u64; 6], k: usize) -> io::Result<()> {
-    if k < 6 {
-        let n = values[k];
-        print!(out; "{n}")?;
-    }
-    Ok(())
+    text(out, row.get(column..).unwrap_or(&[]))
 }
 
 // A template with the values put where it has #, one after the other.
 pub fn filled(out: &impl Print, template: &[u8], values: [u64; 6]) -> io::Result<()> {
-    let mut k = 0usize;
-    let mut i = 0;
-    while i < template.len() {
-        if template[i] == b'#' {
-            value(out, values, k)?;
-            k += 1;
-            i += 1;
-        } else {
-            text(out, &template[i..i + 1])?;
-            i += 1;
+    let mut rest = values.iter();
+    for &b in template {
+        if b != b'#' {
+            text(out, &[b])?;
+        } else if let Some(n) = rest.next() {
+            print!(out; "{n}")?;
         }
     }
     Ok(())

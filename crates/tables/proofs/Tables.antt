@@ -1,63 +1,71 @@
 -- The code of tables.
-use Prim.Native.Nat.{ℕ, suc, ◌+◌, ◌-◌, ◌*◌, ◌%◌, ◌≤◌, ◌<◌}
-use native.Mathlib.Omega.{arith}
-use native.Mathlib.Numerals.{add-one}
-use borrow.Author.Tests.{lt-ltb, le-ltb, eq-eqb, ne_eqb}
-use mathlib.Core.Path.{◌≡◌}
-use mathlib.Core.List.{List}
-use lib.ListN.{length, get_or, drop, drop_of_length-le, get_or-eq_default}
-use lib.Seq.{drop-cons}
+use Rattle.std.proofs.Common.{ℕ, Bool, true, false, suc, ◌+◌, ◌-◌, ◌*◌, ◌%◌, ◌≤◌, ◌<◌, ◌≡◌, List, ◌==◌, refl, not, add-one, arith, length, take, drop, [], ◌∷◌, length-drop, drop-drop, Result, Ok, IsErr, inl, inr}
+use lib.Dec.{eqb}
+use Rattle.std.specs.List.{position, position_or_len}
+use Rattle.std.specs.Option.{unwrap_or}
+use Rattle.std.proofs.lemmas.List.Recursion.{is_position_or_len}
+use Rattle.std.proofs.lemmas.List.Sums.{prefix_len-le-length}
+use Rattle.std.proofs.lemmas.Grind.{common_steps}
 use Rattle.laws.specs.Test.{pick}
-use Rattle.tables.specs.Table.{row_length, digit_value, digit_at, hex_from}
+use Rattle.tables.specs.Table.{row_length, rows, onto_row, EachRowGives, digit_at, hex_from}
 
--- ---- the end of a row
+-- a row goes up to the first line's end, or is the whole
+pub row_is : (s : List ℕ) → row_length s ≡ unwrap_or (position (λ b. b == 10) s) (length s)
+unfolding row_length pick
+row_is s =
+    let e : row_length s ≡ position_or_len (λ b. b == 10) s = is_position_or_len row_length (λ b. b == 10) refl (λ b bs. grind (arith, common_steps)) s in
+    let l : position_or_len (λ b. b == 10) s ≤ length s = prefix_len-le-length (λ b. not (b == 10)) s in
+    grind (arith, common_steps)
 
-module _ (s : List ℕ) (i m : ℕ) (h : i + row_length (drop i s) ≡ m) where
-  -- here
-  pub row_stops : i < length s → get_or s i 0 ≡ 10 → i ≡ m
-  unfolding row_length pick
-  row_stops l e = let k = rw (drop-cons s i 0 l, eq-eqb (get_or s i 0) 10 e) at h in omega (arith, k)
+-- ---- the rows
 
-  -- not yet
-  pub row_turns : i < length s → (get_or s i 0 ≡ 10 → ⊥) → i + 1 + row_length (drop (i + 1) s) ≡ m
-  unfolding row_length pick
-  row_turns l e = let k = rw (drop-cons s i 0 l, ne_eqb (get_or s i 0) 10 e) at h in rw (add-one i) (omega (arith, k))
+-- with no line's end there is no row
+no_rows : (s : List ℕ) → length s ≤ row_length s → rows s ≡ []
+unfolding rows row_length onto_row pick
+no_rows [] h = refl
+no_rows (b ∷ bs) h = go (eqb b 10) h (no_rows bs)
+  where
+    go : (t : Bool) → suc (length bs) ≤ pick t 0 (suc (row_length bs)) → (length bs ≤ row_length bs → rows bs ≡ []) → pick t ([] ∷ rows bs) (onto_row b (rows bs)) ≡ []
+    go true h e = absurd (omega arith)
+    go false h e = rw (e (omega arith))
 
-  -- with the table
-  pub row_done : length s ≤ i → i ≡ m
-  unfolding row_length
-  row_done l = let k = rw (drop_of_length-le s l) at h in omega (arith, k)
+-- else there is a first one, and the others
+more_rows : (s : List ℕ) → row_length s < length s → rows s ≡ take (row_length s) s ∷ rows (drop (row_length s + 1) s)
+unfolding rows row_length onto_row pick
+more_rows [] h = absurd (omega arith)
+more_rows (b ∷ bs) h = go (eqb b 10) _ refl h (more_rows bs)
+  where
+    go : (t : Bool) (n : ℕ) → n ≡ pick t 0 (suc (row_length bs)) → n < suc (length bs) → (row_length bs < length bs → rows bs ≡ take (row_length bs) bs ∷ rows (drop (row_length bs + 1) bs)) → pick t ([] ∷ rows bs) (onto_row b (rows bs)) ≡ take n (b ∷ bs) ∷ rows (drop (n + 1) (b ∷ bs))
+    go true n q h e = rw q
+    go false n q h e = rw (q, e (omega arith), add-one, add-one)
 
--- ---- a digit
+module _ {E : Type 0} (Gives : List ℕ → Result (Unit {0}) E → Type 0) (s : List ℕ) where
+  -- what the rows from a place on give is what the rows of the table give
+  pub record RowsLeft (at : ℕ) : Type 0 where
+    pub left : (r : Result (Unit {0}) E) → EachRowGives Gives (rows (drop at s)) r → EachRowGives Gives (rows s) r
 
--- no digit
-pub digit_low : (b : ℕ) → b < 48 → 0 ≡ digit_value b
-unfolding digit_value pick
-digit_low b h = rw (lt-ltb b 48 h)
+  module _ (at : ℕ) (h : RowsLeft at) where
+    -- no row is left
+    pub rows_end : length s ≤ at + row_length (drop at s) → EachRowGives Gives (rows s) (Ok tt)
+    rows_end l = h.left (Ok tt) (rw (no_rows (drop at s) (omega (arith, length-drop at s))))
 
--- one up to 9
-pub digit_decimal : (b : ℕ) → 48 ≤ b → b < 97 → b - 48 ≡ digit_value b
-unfolding digit_value pick
-digit_decimal b h k = rw (le-ltb b 48 h, lt-ltb b 97 k)
+    module _ (end : ℕ) (e : end ≡ at + row_length (drop at s)) (l : end < length s) (r : Result (Unit {0}) E) (gives : Gives (take (end - at) (drop at s)) r) where
+      -- the row there, and the others
+      row_there : rows (drop at s) ≡ take (end - at) (drop at s) ∷ rows (drop (end + 1) s)
+      row_there =
+          let n : row_length (drop at s) ≡ end - at = omega arith in
+          let m : at + (end - at + 1) ≡ end + 1 = omega arith in
+          rw (more_rows (drop at s) (omega (arith, length-drop at s)), drop-drop, n, m)
 
--- a letter
-pub digit_letter : (b : ℕ) → 48 ≤ b → 97 ≤ b → b - 87 ≡ digit_value b
-unfolding digit_value pick
-digit_letter b h k = rw (le-ltb b 48 h, le-ltb b 97 k)
+      -- it was fine
+      pub rows_turn : r ≡ Ok tt → RowsLeft (end + 1)
+      rows_turn f = record { left = λ q k. h.left q (rw row_there (inl (rw f at gives, k))) }
 
--- past the row
-pub digit_past : (s : List ℕ) (i : ℕ) → length s ≤ i → 0 ≡ digit_at s i
-unfolding digit_at digit_value pick
-digit_past s i h = rw (get_or-eq_default s 0 h)
+      -- it gave an error
+      pub rows_stop : IsErr r → EachRowGives Gives (rows s) r
+      rows_stop f = h.left r (rw row_there (inr (gives, f)))
 
 -- ---- a number in hexadecimal
-
--- all digits are to come
-pub hex_starts : (s : List ℕ) (column digits : ℕ) → hex_from s (column + 0) (digits - 0) 0 ≡ hex_from s column digits 0
-hex_starts s column digits =
-    let a : column + 0 ≡ column = omega arith in
-    let b : digits - 0 ≡ digits = omega arith in
-    rw (a, b)
 
 module _ (s : List ℕ) (column digits i v m : ℕ) (h : hex_from s (column + i) (digits - i) v ≡ m) where
   -- the next one

@@ -1,87 +1,61 @@
--- The code of numbers in decimal.
-use Prim.Native.Nat.{ℕ, suc, ◌+◌, ◌-◌, ◌*◌, ◌/◌, ◌%◌, ◌^◌, ◌≤◌, ◌<◌}
-use native.Mathlib.Nat.{pow-suc, one-le-pow, pow-le-pow_right}
-use native.Mathlib.Omega.{arith}
-use native.Mathlib.Numerals.{add-one}
+-- A number of 32 bits in decimal is what the library shows.
+use Rattle.std.proofs.Common.{ℕ, zero, suc, ◌+◌, ◌*◌, ◌/◌, ◌%◌, ◌^◌, ◌<◌, ◌≤◌, ◌≡◌, Bool, true, false, [], ◌∷◌, ◌++◌, refl, sym, ap, ◌∙◌, arith, add-zero}
+use Rattle.std.proofs.Math.Nat.{div-div-eq-div-mul, pow-suc, pow-succ'}
 use borrow.Author.Tests.{lt-ltb, le-ltb}
-use mir.Syntax.{w32}
-use mir.Val.{Fits}
-use mathlib.Core.Path.{◌≡◌}
-use mathlib.Core.List.{List}
+use lib.Dec.{ltb}
+use Rattle.std.proofs.lemmas.Bool.Decides.{nat_tests}
+use Rattle.std.specs.Fmt.{decimal as shown}
+use Rattle.std.proofs.lemmas.Fmt.{decimal_by_steps}
 use Rattle.laws.specs.Test.{pick}
-use Rattle.text.specs.Page.{Page, page, pushed, written}
 use Rattle.text.specs.Decimal.{digits, fewest, decimal}
 
--- ---- powers of ten
+-- a digit of a tenth
+digit_tenth : (k n : ℕ) → 48 + n / 10 ^ suc k % 10 ≡ 48 + n / 10 / 10 ^ k % 10
+digit_tenth k n = rw (pow-succ' 10 k, div-div-eq-div-mul n 10 (10 ^ k))
 
--- each is at least 1
-pub ten_positive : (k : ℕ) → 0 < 10 ^ k
-ten_positive k = one-le-pow k 10 (omega arith)
+-- the last digit, and those before it
+digits_last : (k n : ℕ) → digits (suc k) n ≡ digits k (n / 10) ++ ((48 + n % 10) ∷ [])
+unfolding digits
+digits_last zero n = let e : n / 10 ^ 0 ≡ n = omega arith in rw e
+digits_last (suc k) n = rw (digit_tenth k n) (ap (λ l. (48 + n / 10 / 10 ^ k % 10) ∷ l) (digits_last k n))
 
--- those up to 10 ^ 9 fit a word
-pub ten_fits : (i k r : ℕ) → r ≡ 10 ^ i → i < k → k < 10 → Fits w32 (r * 10)
-ten_fits i k r h l m = let b : 10 ^ i ≤ 10 ^ 8 = pow-le-pow_right {n = 10} (omega arith) {i = i} {j = 8} (omega arith) in omega arith
+-- a number is below ten times as much as a tenth of it is
+tenth_below : (n p : ℕ) → ltb n (p * 10) ≡ ltb (n / 10) p
+tenth_below n p = grind (arith, nat_tests)
 
--- one more is ten times as much
-pub ten_turns : (i r : ℕ) → r ≡ 10 ^ i → r * 10 ≡ 10 ^ (i + 1)
-ten_turns i r h = rw (add-one i, pow-suc 10 i, h)
-
--- as many as there are to be
-pub ten_done : (i k r : ℕ) → r ≡ 10 ^ i → i ≤ k → k ≤ i → r ≡ 10 ^ k
-ten_done i k r h a b = let e : i ≡ k = omega arith in rw e at h
-
--- none is 0
-pub ten_divides : (k r : ℕ) → r ≡ 10 ^ k → 0 < r
-ten_divides k r h = rw h (ten_positive k)
-
--- ---- a digit
-
--- the code's digit
-pub digit_is : (n k r : ℕ) → r ≡ 10 ^ k → 48 + n / r % 10 ≡ 48 + n / 10 ^ k % 10
-digit_is n k r h = rw h
-
--- ---- the count of digits
-
--- one digit more where k are too few
-pub fewest_turns : (n k m r : ℕ) → fewest (10 - k) k n ≡ m → k < 10 → r ≡ 10 ^ k → r ≤ n → fewest (10 - (k + 1)) (k + 1) n ≡ m
+-- a tenth has one digit less
+fewest_tenth : (more k n : ℕ) → fewest more (suc k) n ≡ suc (fewest more k (n / 10))
 unfolding fewest pick
-fewest_turns n k m r h l e b =
-    let s : 10 - k ≡ suc (10 - (k + 1)) = omega arith in
-    let t : 10 ^ k ≤ n = rw e at b in
-    rw (add-one k) (rw (s, le-ltb n (10 ^ k) t, add-one k) at h)
+fewest_tenth zero k n = refl
+fewest_tenth (suc more) k n = rw (pow-suc 10 k, tenth_below n (10 ^ k), fewest_tenth more (suc k) n) (either (ltb (n / 10) (10 ^ k)) (fewest more (suc k) (n / 10)))
+  where
+    either : (t : Bool) (r : ℕ) → pick t (suc k) (suc r) ≡ suc (pick t k r)
+    either true r = refl
+    either false r = refl
 
--- k digits are enough
-pub fewest_stops : (n k m r : ℕ) → fewest (10 - k) k n ≡ m → k < 10 → r ≡ 10 ^ k → n < r → k ≡ m
+-- a number of at most that many digits needs no more
+fewest_more : (more k n : ℕ) → n < 10 ^ (k + more) → fewest (suc more) k n ≡ fewest more k n
 unfolding fewest pick
-fewest_stops n k m r h l e b =
-    let s : 10 - k ≡ suc (9 - k) = omega arith in
-    let t : n < 10 ^ k = rw e at b in
-    rw (s, lt-ltb n (10 ^ k) t) at h
+fewest_more zero k n h = rw (lt-ltb n (10 ^ k) (rw add-zero at h))
+fewest_more (suc more) k n h =
+    let e : k + suc more ≡ suc k + more = omega arith in
+    rw (fewest_more more (suc k) n (rw e at h))
 
--- 10 digits are enough for any word
-pub fewest_done : (n k m : ℕ) → fewest (10 - k) k n ≡ m → 10 ≤ k → k ≡ m
-unfolding fewest pick
-fewest_done n k m h b =
-    let s : 10 - k ≡ 0 = omega arith in
-    rw s at h
+-- one digit
+decimal_one : (n : ℕ) → n < 10 → decimal n ≡ (48 + n) ∷ []
+unfolding decimal digits fewest pick
+decimal_one n h =
+    let e : 48 + n / 10 ^ 0 % 10 ≡ 48 + n = omega arith in
+    rw (lt-ltb n 10 h, e)
 
--- ---- the digits
-
--- all digits are to come
-pub digits_start : (p : Page) (n k : ℕ) → k ≡ fewest 9 1 n → written p (digits k n) ≡ written p (decimal n)
+-- and more
+decimal_more : (n : ℕ) → 10 ≤ n → n < 10 ^ 10 → decimal n ≡ decimal (n / 10) ++ ((48 + n % 10) ∷ [])
 unfolding decimal
-digits_start p n k h = rw h
+decimal_more n h l =
+    let second : fewest 9 1 n ≡ fewest 8 2 n = unfold fewest pick in rw (le-ltb n 10 h) in
+    let e : fewest 9 1 n ≡ suc (fewest 9 1 (n / 10)) = second ∙ fewest_tenth 8 1 n ∙ ap suc (sym (fewest_more 8 1 (n / 10) (omega arith))) in
+    rw e (digits_last (fewest 9 1 (n / 10)) n)
 
--- the next digit
-pub digits_turn : (p : Page) (n k b : ℕ) (out out' all : List ℕ) (at at' : ℕ) → written (page out at) (digits k n) ≡ written p all → 0 < k → b ≡ 48 + n / 10 ^ (k - 1) % 10 → page out' at' ≡ pushed (page out at) b → written (page out' at') (digits (k - 1) n) ≡ written p all
-unfolding written digits
-digits_turn p n k b out out' all at at' h l e q =
-    let s : k ≡ suc (k - 1) = omega arith in
-    rw (q, e) (rw s at h)
-
--- no digit is left
-pub digits_done : (p : Page) (n k : ℕ) (out all : List ℕ) (at : ℕ) → written (page out at) (digits k n) ≡ written p all → k ≤ 0 → page out at ≡ written p all
-unfolding written digits
-digits_done p n k out all at h l =
-    let s : k ≡ 0 = omega arith in
-    rw s at h
+-- the same text
+pub decimal_shown : (n : ℕ) → n < 2 ^ 32 → shown n ≡ decimal n
+decimal_shown n h = sym (decimal_by_steps (λ m ds. m < 10 ^ 10 → decimal m ≡ ds) (λ m l b. decimal_one m l) (λ m ds l e b. decimal_more m l b ∙ ap (λ xs. xs ++ ((48 + m % 10) ∷ [])) (e (omega arith))) n (omega arith) (omega arith))

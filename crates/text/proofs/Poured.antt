@@ -6,6 +6,8 @@ use mathlib.Core.List.{List, [], ◌∷◌, ◌++◌, append-nil, append_assoc}
 use lib.ListN.{length, set, length-append}
 use lib.Seq.{take-nil, set-append_seam}
 use Rattle.text.specs.Page.{Page, page, pushed, written, poured}
+use Rattle.text.specs.declared.writer.Writer.{Writer}
+use Rattle.text.specs.Writer.{Puts}
 use Rattle.text.proofs.Pages.{pushes, stays}
 
 -- a full buffer stays
@@ -43,7 +45,11 @@ written_whole xs old =
     rw e at (written_after [] xs old)
 
 -- what a function that writes a text from the start answers, and the buffer that it leaves
-pub poured_is : (xs old out : List ℕ) (r : ℕ) → page out r ≡ written (page old 0) xs → (r ≡ min (length xs) (length old)) × (out ≡ poured xs old)
+poured_is : (xs old out : List ℕ) (r : ℕ) → page out r ≡ written (page old 0) xs → (r ≡ min (length xs) (length old)) × (out ≡ poured xs old)
 poured_is xs old out r h =
     let e : page out r ≡ page (poured xs old) (min (length xs) (length old)) = h ∙ written_whole xs old in
     (ap (λ (p : Page). p.next) e, ap (λ (p : Page). p.text) e)
+
+-- what a writer leaves that starts at the start of a buffer and puts a text
+pub puts_poured : (p q : Writer) (xs old out : List ℕ) → page p.out.now p.at ≡ page old 0 → Puts p xs q → out ≡ q.out.now → (q.at ≡ min (length xs) (length old)) × (out ≡ poured xs old)
+puts_poured p q xs old out e h k = poured_is xs old out q.at (rw k (h.adds ∙ ap (λ s. written s xs) e))

@@ -2,3 +2,4 @@ pub mod Text
 pub mod Page
 pub mod Decimal
 pub mod Lists
+pub mod Writer

@@ -3,6 +3,5 @@
 #![tactic(auto)]
 
 pub mod decimal;
-pub mod lists;
-pub mod page;
 pub mod parts;
+pub mod writer;

@@ -12,8 +12,8 @@ use judging::Judged;
 use show::{byte, filled, from_column, text};
 use std::io;
 use std::io::Print;
-use tables::{byte_at, digit_at, hex_at, row_end};
-use text::parts::first_bytes;
+use tables::{byte_at, digit_at, hex_at, for_each_row};
+use text::parts::first;
 
 // ---- what a row holds
 
@@ -173,7 +173,7 @@ fn case(to: &impl Print, row: &[u8]) -> io::Result<()> {
     from_column(to, row, 32)?;
     text(to, b":")?;
     let whole = bytes(row);
-    let given = first_bytes(&whole, hex_at(row, 2, 2) as usize);
+    let given = first(&whole, hex_at(row, 2, 2) as usize);
     let kind = row[0];
     match kind {
         b'r' => read(to, given),
@@ -184,21 +184,8 @@ fn case(to: &impl Print, row: &[u8]) -> io::Result<()> {
     }
 }
 
-fn cases(to: &impl Print, table: &[u8]) -> io::Result<()> {
-    let mut at = 0;
-    while at < table.len() {
-        let end = row_end(table, at);
-        if table.len() <= end {
-            return Ok(());
-        }
-        case(to, &table[at..end])?;
-        at = end + 1;
-    }
-    Ok(())
-}
-
 fn main(rt: HostRuntime) -> io::Result<()> {
     let mut table = [0u8; 65536];
     let given = read_full(&mut rt.reader(), &mut table)?;
-    cases(&rt, &table[..given])
+    for_each_row(&table[..given], |row| case(&rt, row))
 }

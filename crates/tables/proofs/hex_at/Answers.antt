@@ -1,9 +1,6 @@
 use borrow.Author.Rules.{rules}
-use Rattle.tables.proofs.Tables.{hex_starts, hex_turns, hex_done}
+use Rattle.tables.proofs.Tables.{hex_turns, hex_done}
 use Rattle.tables.proofs.hex_at.Goals as goal
-
-pub loop-i-init : goal.loop-i-init
-loop-i-init c = search (hex_starts, rules)
 
 pub loop-i-preserved : goal.loop-i-preserved
 loop-i-preserved c = search (hex_turns, rules)
