@@ -21,10 +21,8 @@ pub fn store(out: &mut [u8], at: usize, word: u64, count: usize)
     requires { (count ≤ 8) × (at + count ≤ length out.old) }
     ensures { out.new ≡ stored out.old at word count }
 {
-    let mut t = 0usize;
-    while t < count {
+    for t in 0..count {
         out[at + t] = ((word >> (56 - 8 * t)) % 256) as u8;
-        t += 1;
     }
 }
 
