@@ -1,4 +1,3 @@
-use Prim.Native.Nat.{◌-◌, ◌≤◌}
 use mathlib.Core.Path.{◌≡◌}
 use Rattle.pen.specs.Pushed.{stored}
 use Rattle.pen.proofs.store.Given as goal
