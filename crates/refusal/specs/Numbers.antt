@@ -1,5 +1,6 @@
 -- The numbers of refusal, the place that is given with each, and what an answer that may be refused tells.
 use Rattle.std.specs.Prelude.{ℕ, Result, Ok, Err}
+use Rattle.std.specs.Result.{result_unwrap_or}
 use Rattle.refusal.specs.declared.Refusal.{Refusal}
 use Rattle.refusal.specs.declared.Refusal.TheVariants.{PastTheBytes, Order, Entry, Pad, LiteralRoom, OutputRoom, Vertex, Malformed, Value, LongBook, Arrangement, Width, Mode}
 
@@ -49,5 +50,4 @@ place_told (Err refusal) = place_of refusal
 
 -- its value, or what stands for it where it is refused
 abbrev pub value_told : {A : Type 0} → A → Result A Refusal → A
-value_told none (Ok value) = value
-value_told none (Err refusal) = none
+value_told none answer = result_unwrap_or answer none
