@@ -10,14 +10,13 @@ ghost use Rattle.writing.specs.Reached.{Reached};
 ghost use Rattle.writing.specs.Along.{along};
 
 use pen::{Pen, push, store};
-use words::wide;
 
 // 1 where vertex v starts a block.
 fn start_of(starts: u32, v: u32) -> u64
     requires { (1 ≤ v) × (v ≤ 32) }
     ensures { (result ≡ start_at starts v) × (result < 2) }
 {
-    wide((starts >> (v - 1)) % 2)
+    u64::from((starts >> (v - 1)) % 2)
 }
 
 // The starts of the vertices from 2 on as one number.
@@ -25,11 +24,9 @@ fn starts_of(starts: u32, order: u32) -> u64
     requires { (1 ≤ order) × (order ≤ 32) }
     ensures { result ≡ num (start_at starts) 2 (order - 1) }
 {
-    let mut made = 0u64;
-    let mut t = 0;
-    while t < order - 1 {
+    let mut made = 0;
+    for t in 0..order - 1 {
         made = 2 * made + start_of(starts, 2 + t);
-        t += 1;
     }
     made
 }
@@ -39,7 +36,7 @@ fn entry_of(e: u32, u: u32, j: u32) -> u64
     requires { (1 ≤ j) × (j ≤ 32) }
     ensures { (result ≡ bit e (j - 1) + 2 * bit u (j - 1)) × (result ≤ 3) }
 {
-    wide((e >> (j - 1)) % 2 + 2 * ((u >> (j - 1)) % 2))
+    u64::from((e >> (j - 1)) % 2 + 2 * ((u >> (j - 1)) % 2))
 }
 
 // The entries of so many columns after column i as one number.
@@ -47,11 +44,9 @@ fn entries_of(e: u32, u: u32, i: u32, count: u32) -> u64
     requires { (i + count ≤ 32) × (count ≤ 31) }
     ensures { result ≡ along e u i count }
 {
-    let mut made = 0u64;
-    let mut t = 0;
-    while t < count {
+    let mut made = 0;
+    for t in 0..count {
         made = 4 * made + entry_of(e, u, i + t + 1);
-        t += 1;
     }
     made
 }
@@ -69,12 +64,10 @@ fn put_rows<'a, 'b>(
     ensures { Reached (graph_of order edges.now unknowns.now starts) out.old out.new result (bit_count order) × (pen.stored ≤ result.stored) }
 {
     let mut at = pen;
-    let mut i = 1;
-    while i < order {
+    for i in 1..order {
         let k = (i - 1) as usize;
         let entries = entries_of(edges[k], unknowns[k], i, order - i);
         at = push(out, at, entries, 2 * (order - i));
-        i += 1;
     }
     at
 }
@@ -93,7 +86,7 @@ pub fn put<'a, 'b>(
     let ordered = Pen {
         stored: 0,
         have: 6,
-        kept: wide(order),
+        kept: u64::from(order),
     };
     let bits = starts_of(starts, order);
     let started = push(out, ordered, bits, order - 1);

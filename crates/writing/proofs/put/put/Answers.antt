@@ -10,7 +10,7 @@ put_rows-done-requires c =
     let given = c.requires in (
       search rules,
       search rules,
-      rows_begin _ _ given.0 given.1 given.2 _ c.wide.ensures _ _ _ c.starts_of-bits.ensures c.push-started.ensures,
+      rows_begin _ _ given.0 given.1 given.2 _ c.from.ensures _ _ _ c.starts_of-bits.ensures c.push-started.ensures,
     )
 
 pub overflow_mul-word : goal.overflow_mul-word
@@ -24,5 +24,5 @@ store-requires c =
 pub returns : goal.returns
 returns c =
     let given = c.requires in
-    all_stored _ _ given.0 given.1 given.2 _ c.wide.ensures _ _ _ _ _ _
+    all_stored _ _ given.0 given.1 given.2 _ c.from.ensures _ _ _ _ _ _
     c.starts_of-bits.ensures c.push-started.ensures c.put_rows-done.ensures.0 c.put_rows-done.ensures.1 c.store.ensures
