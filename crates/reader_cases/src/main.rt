@@ -2,21 +2,23 @@
 
 #![tactic(auto)]
 
-use fields::Value;
 use fields::reader::take_two;
+use refusal::{Refusal, told};
 use show::filled;
 use std::io;
 use std::io::Print;
 
-fn show_field(to: &impl Print, width: u32, found: Value) -> io::Result<()> {
+// The number and the place of a refusal, or zeros, and the value, or 0.
+fn show_field(to: &impl Print, width: u32, found: Result<u32, Refusal>) -> io::Result<()> {
+    let (number, place) = told(&found);
     filled(
         to,
         b"; width #: refusal # place # value #",
         [
-            width as u64,
-            found.refusal as u64,
-            found.place as u64,
-            found.value as u64,
+            u64::from(width),
+            u64::from(number),
+            place as u64,
+            u64::from(found.unwrap_or(0)),
             0,
             0,
         ],
