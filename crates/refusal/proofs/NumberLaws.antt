@@ -1,5 +1,6 @@
 -- What the number that an answer tells says of it.
 use Rattle.std.specs.Prelude.{◌≡◌, ◌≤◌, Result, Ok, Err, true, false, is_ok}
+use Rattle.std.proofs.lemmas.Bool.{false≢true}
 use Rattle.std.proofs.Common.{refl, arith}
 use Rattle.refusal.specs.declared.Refusal.{Refusal}
 use Rattle.refusal.specs.declared.Refusal.TheVariants.{PastTheBytes, Order, Entry, Pad, LiteralRoom, OutputRoom, Vertex, Malformed, Value, LongBook, Arrangement, Width, Mode}
@@ -30,3 +31,8 @@ told_given (Err refusal) h = absurd (omega (arith, number_range refusal))
 pub told_refused : {A : Type 0} (r : Result A Refusal) → (refusal_told r ≡ 0 → ⊥) → is_ok r ≡ false
 told_refused (Ok value) h = absurd (h refl)
 told_refused (Err refusal) h = refl
+
+-- the other way, a value tells 0
+pub given_told : {A : Type 0} (r : Result A Refusal) → is_ok r ≡ true → refusal_told r ≡ 0
+given_told (Ok value) h = refl
+given_told (Err refusal) h = absurd (false≢true h)
