@@ -9,7 +9,7 @@ ghost use Rattle.record.specs.Writing.{record_of};
 ghost use Rattle.writing.specs.Reached.{Reached};
 ghost use Rattle.writing.specs.Along.{along};
 
-use pen::{Pen, push, store};
+use pen::{Pen, store};
 
 // 1 where vertex v starts a block.
 fn start_of(starts: u32, v: u32) -> u64
@@ -67,7 +67,7 @@ fn put_rows<'a, 'b>(
     for i in 1..order {
         let k = (i - 1) as usize;
         let entries = entries_of(edges[k], unknowns[k], i, order - i);
-        at = push(out, at, entries, 2 * (order - i));
+        at = at.push(out, entries, 2 * (order - i));
     }
     at
 }
@@ -89,7 +89,7 @@ pub fn put<'a, 'b>(
         kept: u64::from(order),
     };
     let bits = starts_of(starts, order);
-    let started = push(out, ordered, bits, order - 1);
+    let started = ordered.push(out, bits, order - 1);
     let done = put_rows(order, edges, unknowns, starts, out, started);
     let word = (done.kept << (63 - done.have)) * 2;
     store(out, done.stored, word, ((done.have + 7) / 8) as usize);

@@ -1,5 +1,5 @@
 use mathlib.Core.Path.{◌≡◌}
-use Rattle.pen.specs.Pushed.{stored}
+use Rattle.pen.specs.Stored.{stored}
 use Rattle.pen.proofs.store.Given as goal
 
 -- After t turns t bytes are stored.

@@ -1,16 +1,17 @@
+use mathlib.Core.Path.{refl}
 use Rattle.writing.proofs.PutLaws.{starts_small, starts_room, rows_begin, last_fits, last_room, all_stored}
 use borrow.Author.Rules.{rules}
 use Rattle.writing.proofs.put.put.Goals as goal
 
 pub push-started-requires : goal.push-started-requires
-push-started-requires c = (search rules, search rules, search rules, starts_small _ _ _ c.starts_of-bits.ensures, search (starts_room, rules))
+push-started-requires c = (search rules, starts_small _ _ _ c.starts_of-bits.ensures, search (starts_room, rules))
 
 pub put_rows-done-requires : goal.put_rows-done-requires
 put_rows-done-requires c =
     let given = c.requires in (
       search rules,
       search rules,
-      rows_begin _ _ given.0 given.1 given.2 _ c.from.ensures _ _ _ c.starts_of-bits.ensures c.push-started.ensures,
+      rows_begin _ _ given.0 given.1 given.2 _ refl refl c.from.ensures _ _ _ c.starts_of-bits.ensures c.push-started.ensures,
     )
 
 pub overflow_mul-word : goal.overflow_mul-word
@@ -24,5 +25,5 @@ store-requires c =
 pub returns : goal.returns
 returns c =
     let given = c.requires in
-    all_stored _ _ given.0 given.1 given.2 _ c.from.ensures _ _ _ _ _ _
+    all_stored _ _ given.0 given.1 given.2 _ refl refl c.from.ensures _ _ _ _ _ _
     c.starts_of-bits.ensures c.push-started.ensures c.put_rows-done.ensures.0 c.put_rows-done.ensures.1 c.store.ensures

@@ -1,5 +1,5 @@
 use native.Mathlib.Nat.{le_trans}
-use Rattle.writing.proofs.Reached.{kept_small, pushed_later}
+use Rattle.writing.proofs.Reached.{pushed_later}
 use Rattle.writing.proofs.PutLaws.{row_small, row_room, row_pushed, rows_done}
 use borrow.Author.Rules.{rules}
 use Rattle.writing.proofs.put.put_rows.Goals as goal
@@ -7,7 +7,7 @@ use Rattle.writing.proofs.put.put_rows.Goals as goal
 pub push-at-requires : goal.push-at-requires
 push-at-requires c =
     let reached = c.loop-i.invariant.0 in
-    (search rules, kept_small _ _ _ _ _ reached, search rules, search (row_small, rules), row_room _ _ _ _ _ reached (search rules) (search rules))
+    (search rules, search (row_small, rules), row_room _ _ _ _ _ reached (search rules) (search rules))
 
 pub loop-i-preserved : goal.loop-i-preserved
 loop-i-preserved c = search (row_pushed, pushed_later, le_trans, rules)
