@@ -7,7 +7,12 @@ use mathlib.Core.List.{List}
 use borrow.Author.Tests.{leb-false}
 use lib.ListN.{length}
 use lib.Dec.{eqb, leb}
-use Rattle.laws.specs.Test.{pick, unless}
+use Rattle.std.specs.Prelude.{Result, Ok, Err}
+use Rattle.std.specs.Result.{result_and}
+use Rattle.laws.specs.Test.{unless}
+use Rattle.refusal.specs.declared.Refusal.{Refusal}
+use Rattle.refusal.specs.declared.Refusal.TheVariants.{PastTheBytes, Order, Entry, Pad, OutputRoom, Malformed}
+use Rattle.refusal.specs.Numbers.{refusal_told, place_told, value_told}
 use Rattle.laws.specs.Num.{num_below}
 use Rattle.graph.specs.declared.Graph.{Graph}
 use Rattle.graph.specs.WellFormed.{well_formed}
@@ -16,19 +21,16 @@ use Rattle.pairs.specs.Pairs.{pair_count}
 use Rattle.graph.proofs.Formed.{formed}
 use Rattle.pairs.proofs.VertexLaws.{order_in_range}
 use Rattle.pairs.proofs.PairLaws.{pair_count_mono}
-use Rattle.record.specs.declared.Extent.{Extent}
-use Rattle.record.specs.declared.Written.{Written}
 use Rattle.record.specs.Layout.{byte_count}
 use Rattle.fields.specs.Bits.{bit_of}
-use Rattle.record.specs.Reading.{order_in, refused_in, pad_in}
-use Rattle.record.specs.Answers.{extent, record_in, record_at, read_answer, written, write_answer}
+use Rattle.record.specs.Reading.{order_in, refused_in, pad_in, graph_in}
+use Rattle.record.specs.Answers.{record_in, record_at, read_answer, write_answer}
 use Rattle.fields.proofs.BitLaws.{bit_small}
 use Rattle.record.proofs.Refused.{first_refused}
 use Rattle.record.proofs.SizeLaws.{bytes_high}
-use Rattle.judging.specs.declared.Verdict.TheVariants.{Refused}
-use Rattle.judging.specs.Answer.{told, without, judge_answer}
+use Rattle.judging.specs.Answer.{told, without}
 use Rattle.packing.proofs.Bounds.{Bounded, judged_bounded}
-use Rattle.cafruzek.specs.Answers.{judge_record}
+use Rattle.cafruzek.specs.Answers.{judge_read, judge_record}
 
 -- ---- records
 
@@ -50,50 +52,54 @@ refused_small f n within = go (refused_in f n) refl
         omega arith
 
 -- reading refuses by a number up to 4, with a place up to 496, and a record takes at most 129 bytes
-abbrev SmallExtent : Extent → Type 0
-SmallExtent x = (x.refusal ≤ 4) × (x.place ≤ 496) × (x.bytes ≤ 129)
+abbrev SmallExtent : Result ℕ Refusal → Type 0
+SmallExtent r = (refusal_told r ≤ 4) × (place_told r ≤ 496) × (value_told 0 r ≤ 129)
 
 -- by the checks one after the other
 in_small : (f : ℕ → ℕ) (n given : ℕ) → n < 64 → SmallExtent (record_in f n given)
 unfolding record_in
 in_small f n given h =
-    check SmallExtent (leb 1 given) (extent 1 given 0) _ (λ e. omega (arith, leb-false 1 given e)) (λ e.
-    check SmallExtent (order_fits n) (extent 2 n 0) _ (λ e. omega arith) (λ e.
+    check SmallExtent (leb 1 given) (Err (PastTheBytes given)) _ (λ e. omega (arith, leb-false 1 given e)) (λ e.
+    check SmallExtent (order_fits n) (Err (Order n)) _ (λ e. omega arith) (λ e.
     let within : n ≤ 32 = (order_in_range n e).1 in
-    check SmallExtent (leb (byte_count n) given) (extent 1 given 0) _ (λ e. omega (arith, leb-false (byte_count n) given e, bytes_high n within)) (λ e.
-    check SmallExtent (eqb (refused_in f n) 0) (extent 3 (refused_in f n) 0) _ (λ e. omega (arith, refused_small f n within)) (λ e.
-    check SmallExtent (eqb (pad_in f n) 0) (extent 4 0 0) (extent 0 0 (byte_count n)) (λ e. omega arith) (λ e.
+    check SmallExtent (leb (byte_count n) given) (Err (PastTheBytes given)) _ (λ e. omega (arith, leb-false (byte_count n) given e, bytes_high n within)) (λ e.
+    check SmallExtent (eqb (refused_in f n) 0) (Err (Entry (refused_in f n))) _ (λ e. omega (arith, refused_small f n within)) (λ e.
+    check SmallExtent (eqb (pad_in f n) 0) (Err Pad) (Ok (byte_count n)) (λ e. omega arith) (λ e.
     omega (arith, bytes_high n within))))))
 
 -- of the record at the start of some bytes
-pub extent_small : (s : List ℕ) → ((record_at s).refusal ≤ 4) × ((record_at s).place ≤ 496) × ((record_at s).bytes ≤ 129)
+pub extent_small : (s : List ℕ) → (refusal_told (record_at s) ≤ 4) × (place_told (record_at s) ≤ 496) × (value_told 0 (record_at s) ≤ 129)
 unfolding record_at order_in
 extent_small s = in_small (bit_of s) (order_in (bit_of s)) (length s) (num_below (bit_of s) (bit_small s) 0 6)
 
 -- and so does reading its graph
-pub read_small : (s : List ℕ) → ((read_answer s).refusal ≤ 4) × ((read_answer s).place ≤ 496)
+pub read_small : (s : List ℕ) → (refusal_told (read_answer s) ≤ 4) × (place_told (read_answer s) ≤ 496)
 unfolding read_answer
-read_small s = ((extent_small s).0, (extent_small s).1)
+read_small s = alike (record_at s) (graph_in (bit_of s)) (extent_small s)
+  where
+    alike : (r : Result ℕ Refusal) (g : Graph) → SmallExtent r → (refusal_told (result_and r (Ok g)) ≤ 4) × (place_told (result_and r (Ok g)) ≤ 496)
+    alike (Ok n) g small = omega arith
+    alike (Err e) g small = (small.0, small.1)
 
 -- writing refuses by a number up to 8, with place 0, and writes at most 129 bytes
-abbrev SmallWritten : Written → Type 0
-SmallWritten x = (x.refusal ≤ 8) × (x.place ≡ 0) × (x.written ≤ 129)
+abbrev SmallWritten : Result ℕ Refusal → Type 0
+SmallWritten r = (refusal_told r ≤ 8) × (place_told r ≡ 0) × (value_told 0 r ≤ 129)
 
 -- by the checks one after the other
-pub written_small : (g : Graph) (out : List ℕ) → ((write_answer g out).refusal ≤ 8) × ((write_answer g out).place ≡ 0) × ((write_answer g out).written ≤ 129)
+pub written_small : (g : Graph) (out : List ℕ) → (refusal_told (write_answer g out) ≤ 8) × (place_told (write_answer g out) ≡ 0) × (value_told 0 (write_answer g out) ≤ 129)
 unfolding write_answer
 written_small g out =
-    check SmallWritten (well_formed g) (written 8 0) _ (λ e. omega arith) (λ well.
-    check SmallWritten (leb (byte_count g.order) (length out)) (written 6 0) (written 0 (byte_count g.order)) (λ e. omega arith) (λ e.
+    check SmallWritten (well_formed g) (Err Malformed) _ (λ e. omega arith) (λ well.
+    check SmallWritten (leb (byte_count g.order) (length out)) (Err OutputRoom) (Ok (byte_count g.order)) (λ e. omega arith) (λ e.
     omega (arith, bytes_high g.order (formed g well).order_high)))
 
 -- ---- judgements
 
 -- judging a record stays within the bounds of judging
 pub record_bounded : (mode : ℕ) (s : List ℕ) (budget room : ℕ) → Bounded budget (judge_record mode s budget room)
-unfolding judge_record told without pick
-record_bounded mode s budget room = go (eqb (read_answer s).refusal 0)
+unfolding judge_read told without
+record_bounded mode s budget room = go (read_answer s) (read_small s)
   where
-    go : (t : Bool) → Bounded budget (pick t (judge_answer mode (read_answer s).graph budget room) (without (Refused (read_answer s).refusal (read_answer s).place)))
-    go true = judged_bounded mode (read_answer s).graph budget room
-    go false = omega (arith, read_small s)
+    go : (r : Result Graph Refusal) → (refusal_told r ≤ 4) × (place_told r ≤ 496) → Bounded budget (judge_read mode r budget room)
+    go (Ok g) small = judged_bounded mode g budget room
+    go (Err e) small = omega arith

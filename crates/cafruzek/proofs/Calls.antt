@@ -7,9 +7,10 @@ use mathlib.Core.Logic.{◌≢◌, ◌↔◌}
 use mathlib.Core.List.{List}
 use lib.IntN.{ℤ}
 use lib.ListN.{length, take}
-use borrow.Author.Tests.{eq-eqb, ne_eqb}
 use Rattle.laws.specs.Each.{Each}
-use Rattle.laws.specs.Test.{pick}
+use Rattle.std.specs.Prelude.{Result, Ok, Err}
+use Rattle.refusal.specs.declared.Refusal.{Refusal}
+use Rattle.refusal.specs.Numbers.{refusal_told, place_told}
 use Rattle.walk.specs.Clause.{BreaksClause}
 use Rattle.walk.specs.Earlier.{LexLess}
 use Rattle.graph.specs.declared.Graph.{Graph}
@@ -19,7 +20,6 @@ use Rattle.judging.specs.Order.{FullyDrawn, word_in}
 use Rattle.graph.specs.Counts.{entry_at}
 use Rattle.pairs.specs.Pairs.{pairs}
 use Rattle.record.specs.Answers.{read_answer}
-use Rattle.judging.specs.declared.Verdict.TheVariants.{Refused}
 use Rattle.judging.specs.declared.Judged.{Judged}
 use Rattle.judging.specs.Judging.{steps_for}
 use Rattle.judging.specs.Answer.{told, without, judge_answer, judge_buffer}
@@ -33,33 +33,20 @@ use Rattle.judging.proofs.Smallest.{none_tells}
 use Rattle.judging.proofs.Buffer.{buffer_unchanged}
 use Rattle.packing.specs.Packing.{low_in, code_in, packed}
 use Rattle.packing.specs.Telling.{arranged_by, arranged_after}
-use Rattle.packing.proofs.Bounds.{judged_bounded}
+use Rattle.packing.proofs.Bounds.{Bounded, judged_bounded}
 use Rattle.packing.proofs.Apart.{packed_literals, packed_refusal, packed_place, packed_steps, code_kind}
 use Rattle.packing.proofs.Changed.{arrangement_unchanged, arrangement_written}
-use Rattle.cafruzek.specs.Answers.{judge_record, judge_record_buffer}
+use Rattle.cafruzek.specs.Answers.{judge_read, judge_read_buffer}
 use Rattle.cafruzek.specs.Calls.{Outcome, judged_rows, judged_record, Judges, by_rows, by_record, clause_in}
 use Rattle.cafruzek.proofs.Bounds.{record_bounded}
 
 -- ---- either function judges the graph alike
 
--- a record that is read is judged as the rows of its graph are
-record_judged : (mode : ℕ) (s : List ℕ) (budget room : ℕ) → (read_answer s).refusal ≡ 0 → judge_record mode s budget room ≡ judge_answer mode (read_answer s).graph budget room
-unfolding judge_record pick
-record_judged mode s budget room e = rw (eq-eqb (read_answer s).refusal 0 e)
-
-record_written : (mode : ℕ) (s : List ℕ) (budget : ℕ) (buffer : List ℤ) → (read_answer s).refusal ≡ 0 → judge_record_buffer mode s budget buffer ≡ judge_buffer mode (read_answer s).graph budget buffer
-unfolding judge_record_buffer pick
-record_written mode s budget buffer e = rw (eq-eqb (read_answer s).refusal 0 e)
-
--- and one that is refused is refused so
-record_refused : (mode : ℕ) (s : List ℕ) (budget room : ℕ) → (read_answer s).refusal ≢ 0 → judge_record mode s budget room ≡ without (Refused (read_answer s).refusal (read_answer s).place)
-unfolding judge_record pick
-record_refused mode s budget room ne = rw (ne_eqb (read_answer s).refusal 0 ne)
-
--- so whatever a call leaves is what the call by rows leaves
+-- whatever a call leaves is what the call by rows leaves
 as_rows : (mode : ℕ) (g : Graph) (budget : ℕ) (buffer : List ℤ) (lent : List ℕ) {o : Outcome} → Judges mode g budget buffer lent o → o ≡ judged_rows mode g budget buffer lent
+unfolding judge_read judge_read_buffer
 as_rows mode g budget buffer lent by_rows = refl
-as_rows mode g budget buffer lent (by_record s e same) = rw (record_judged mode s budget (length buffer) e, record_written mode s budget buffer e, same)
+as_rows mode g budget buffer lent (by_record s e) = rw e
 
 -- ---- of any call that judges g
 
@@ -145,15 +132,16 @@ module _ (mode : ℕ) (g : Graph) (budget : ℕ) (h : budget < 2 ^ 32) (buffer :
 -- ---- a record that is refused
 
 -- its refusal is told with its place, and the caller's memory is as it was
-pub refused_record : (mode : ℕ) (s : List ℕ) (budget : ℕ) → budget < 2 ^ 32 → (buffer : List ℤ) (lent : List ℕ) → (read_answer s).refusal ≢ 0
-    → (code_in (judged_record mode s budget buffer lent).number ≡ 128 + (read_answer s).refusal) × (low_in (judged_record mode s budget buffer lent).number ≡ (read_answer s).place)
+pub refused_record : (mode : ℕ) (s : List ℕ) (budget : ℕ) → budget < 2 ^ 32 → (buffer : List ℤ) (lent : List ℕ) → refusal_told (read_answer s) ≢ 0
+    → (code_in (judged_record mode s budget buffer lent).number ≡ 128 + refusal_told (read_answer s)) × (low_in (judged_record mode s budget buffer lent).number ≡ place_told (read_answer s))
     × ((judged_record mode s budget buffer lent).literals ≡ buffer) × ((judged_record mode s budget buffer lent).arrangement ≡ lent)
-unfolding judge_record_buffer pick arranged_after arranged_by told without
-refused_record mode s budget h buffer lent ne =
-    let a = record_refused mode s budget (length buffer) ne in
-    let b = record_bounded mode s budget (length buffer) in (
-      packed_refusal budget (judge_record mode s budget (length buffer)) b h (rw a refl) ∙ rw a refl,
-      packed_place budget (judge_record mode s budget (length buffer)) b h (rw a refl) ∙ rw a refl,
-      rw (ne_eqb (read_answer s).refusal 0 ne) refl,
-      rw a refl,
-    )
+unfolding judge_read judge_read_buffer arranged_after arranged_by told without
+refused_record mode s budget h buffer lent = go (read_answer s) (record_bounded mode s budget (length buffer))
+  where
+    go : (r : Result Graph Refusal) → Bounded budget (judge_read mode r budget (length buffer)) → refusal_told r ≢ 0
+        → (code_in (packed (judge_read mode r budget (length buffer))) ≡ 128 + refusal_told r) × (low_in (packed (judge_read mode r budget (length buffer))) ≡ place_told r)
+        × (judge_read_buffer mode r budget buffer ≡ buffer) × (arranged_after (judge_read mode r budget (length buffer)) lent ≡ lent)
+    go (Ok g) b ne = absurd (ne refl)
+    go (Err e) b ne =
+        let a : Judged = judge_read mode (Err e) budget (length buffer) in
+        (packed_refusal budget a b h refl, packed_place budget a b h refl, refl, refl)

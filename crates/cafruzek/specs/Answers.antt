@@ -1,34 +1,26 @@
--- The full answer of each function, and what the lent buffers hold afterwards.
-use Rattle.std.specs.Prelude.{ℕ, List, ℤ, eqb}
-use Rattle.laws.specs.Test.{pick}
-use Rattle.record.specs.declared.Extent.{Extent}
-use Rattle.record.specs.declared.Written.{Written}
+-- The full answer of each function that judges, and what the lent buffers hold afterwards.
+use Rattle.std.specs.Prelude.{ℕ, List, ℤ, Result, Ok, Err}
+use Rattle.refusal.specs.declared.Refusal.{Refusal}
+use Rattle.refusal.specs.Numbers.{number_of, place_of}
+use Rattle.graph.specs.declared.Graph.{Graph}
 use Rattle.record.specs.Answers.{read_answer}
 use Rattle.judging.specs.declared.Verdict.TheVariants.{Refused}
 use Rattle.judging.specs.declared.Judged.{Judged}
 use Rattle.judging.specs.Answer.{without, judge_answer, judge_buffer}
-use Rattle.packing.specs.Packing.{counted}
 
--- ---- judging a record
-
--- judging the graph of the record at the start of the bytes in a mode; a refused reading is the answer, before the mode is looked at
-unfoldable pub judge_record : (mode : ℕ) → List ℕ → ℕ → ℕ → Judged
-judge_record mode s budget room =
-    let r = read_answer s in
-    pick (eqb r.refusal 0) (judge_answer mode r.graph budget room) (without (Refused r.refusal r.place))
+-- judging the graph that was read in a mode; a refused reading is the answer, before the mode is looked at
+unfoldable pub judge_read : (mode : ℕ) → Result Graph Refusal → ℕ → ℕ → Judged
+judge_read mode (Ok g) budget room = judge_answer mode g budget room
+judge_read mode (Err e) budget room = without (Refused (number_of e) (place_of e))
 
 -- what the buffer of literals holds afterwards
-unfoldable pub judge_record_buffer : (mode : ℕ) → List ℕ → ℕ → List ℤ → List ℤ
-judge_record_buffer mode s budget buffer =
-    let r = read_answer s in
-    pick (eqb r.refusal 0) (judge_buffer mode r.graph budget buffer) buffer
+unfoldable pub judge_read_buffer : (mode : ℕ) → Result Graph Refusal → ℕ → List ℤ → List ℤ
+judge_read_buffer mode (Ok g) budget buffer = judge_buffer mode g budget buffer
+judge_read_buffer mode (Err e) budget buffer = buffer
 
--- ---- numbers of bytes
+-- the same of the record at the start of the bytes
+abbrev pub judge_record : (mode : ℕ) → List ℕ → ℕ → ℕ → Judged
+judge_record mode s budget room = judge_read mode (read_answer s) budget room
 
--- how many bytes a record takes
-abbrev pub packed_extent : Extent → ℕ
-packed_extent x = counted x.refusal x.place x.bytes
-
--- how many bytes were written
-abbrev pub packed_written : Written → ℕ
-packed_written x = counted x.refusal x.place x.written
+abbrev pub judge_record_buffer : (mode : ℕ) → List ℕ → ℕ → List ℤ → List ℤ
+judge_record_buffer mode s budget buffer = judge_read_buffer mode (read_answer s) budget buffer

@@ -1,5 +1,5 @@
 -- What a call of one of the two functions that judge answers and leaves in the caller's memory.
-use Rattle.std.specs.Prelude.{ℕ, ◌≡◌, List, ℤ, length, take}
+use Rattle.std.specs.Prelude.{ℕ, ◌≡◌, List, ℤ, length, take, Ok}
 use Rattle.graph.specs.declared.Graph.{Graph}
 use Rattle.record.specs.Answers.{read_answer}
 use Rattle.judging.specs.Answer.{judge_answer, judge_buffer}
@@ -28,7 +28,7 @@ judged_record mode s budget buffer lent =
 -- a call of either that judges the graph value g in the mode: by its rows, or by a record that is read as g
 pub data Judges (mode : ℕ) (g : Graph) (budget : ℕ) (buffer : List ℤ) (lent : List ℕ) : Outcome → Type 0 where
   by_rows : Judges mode g budget buffer lent (judged_rows mode g budget buffer lent)
-  by_record : (s : List ℕ) → (read_answer s).refusal ≡ 0 → (read_answer s).graph ≡ g → Judges mode g budget buffer lent (judged_record mode s budget buffer lent)
+  by_record : (s : List ℕ) → read_answer s ≡ Ok g → Judges mode g budget buffer lent (judged_record mode s budget buffer lent)
 
 -- the clause that it wrote: as many literals as the number tells, from the start of the buffer
 abbrev pub clause_in : Outcome → List ℤ

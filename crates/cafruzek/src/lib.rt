@@ -8,17 +8,36 @@
 ghost use Rattle.std.specs.Prelude.{◌≡◌, length};
 ghost use Rattle.record.specs.Answers.{record_at, write_answer, buffer_after};
 ghost use Rattle.judging.specs.Answer.{judge_answer, judge_buffer};
-ghost use Rattle.packing.specs.Packing.{packed};
+ghost use Rattle.packing.specs.Packing.{packed, counted};
 ghost use Rattle.packing.specs.Telling.{arranged_after};
-ghost use Rattle.cafruzek.specs.Answers.{judge_record, judge_record_buffer, packed_extent, packed_written};
+ghost use Rattle.cafruzek.specs.Answers.{judge_record, judge_record_buffer};
 ghost use Rattle.graph.specs.Graph.{graph_of};
+ghost use Rattle.graph.specs.Lent.{lent};
 
+use graph::{FormedGraph, LentGraph};
 use packing::{counted, refused, tell};
 use search::{judge_formed, judge_rows};
+use words::turned::Rows;
+
+// The graph of these rows.
+fn lent<'a>(
+    order: u32,
+    edges: &'a [u32; 32],
+    unknowns: &'a [u32; 32],
+    starts: u32,
+) -> LentGraph<'a>
+    ensures { lent result ≡ graph_of order edges.now unknowns.now starts }
+{
+    LentGraph {
+        order,
+        rows: Rows { edges, unknowns },
+        starts,
+    }
+}
 
 // Judges the graph of the record that the bytes begin with, by rows in mode 1 and by columns in mode 2; bytes after it are
-// ignored. A reading that is refused is the answer. "Smaller" writes the clause at the start of literals and the certificate to arrangement; no other answer changes
-// anything.
+// ignored. A reading that is refused is the answer. "Smaller" writes the clause at the start of literals and the
+// certificate to arrangement; no other answer changes anything.
 #[unsafe(no_mangle)]
 pub extern "C" fn cafruzek_judge_record<'a, 'b, 'c>(
     bytes: &'a [u8],
@@ -29,21 +48,15 @@ pub extern "C" fn cafruzek_judge_record<'a, 'b, 'c>(
 ) -> u64
     ensures { (result ≡ packed (judge_record mode bytes.now budget (length literals.old))) × (literals.new ≡ judge_record_buffer mode bytes.now budget literals.old) × (arrangement.new ≡ arranged_after (judge_record mode bytes.now budget (length literals.old)) arrangement.old) }
 {
-    let found = reading::read(bytes);
-    if found.refusal != 0 {
-        return refused(found.refusal, found.place);
+    match reading::read(bytes) {
+        Ok(graph) => {
+            let formed = FormedGraph {
+                graph: graph.lend(),
+            };
+            tell(judge_formed(formed, mode, budget, literals), arrangement)
+        }
+        Err(refusal) => refused(refusal.number(), refusal.place()),
     }
-    let graph = found.graph;
-    let answer = judge_formed(
-        graph.order,
-        &graph.edges,
-        &graph.unknowns,
-        graph.starts,
-        mode,
-        budget,
-        literals,
-    );
-    tell(answer, arrangement)
 }
 
 // Judges the graph value of these rows. It writes as cafruzek_judge_record does.
@@ -60,17 +73,16 @@ pub extern "C" fn cafruzek_judge_rows<'a, 'b, 'c>(
 ) -> u64
     ensures { (result ≡ packed (judge_answer mode (graph_of order edges.now unknowns.now starts) budget (length literals.old))) × (literals.new ≡ judge_buffer mode (graph_of order edges.now unknowns.now starts) budget literals.old) × (arrangement.new ≡ arranged_after (judge_answer mode (graph_of order edges.now unknowns.now starts) budget (length literals.old)) arrangement.old) }
 {
-    let answer = judge_rows(order, edges, unknowns, starts, mode, budget, literals);
-    tell(answer, arrangement)
+    let graph = lent(order, edges, unknowns, starts);
+    tell(judge_rows(graph, mode, budget, literals), arrangement)
 }
 
 // Answers how many bytes the record that the bytes begin with takes, or the refusal, as reading refuses.
 #[unsafe(no_mangle)]
 pub extern "C" fn cafruzek_record_size(bytes: &[u8]) -> u64
-    ensures { result ≡ packed_extent (record_at bytes.now) }
+    ensures { result ≡ counted (record_at bytes.now) }
 {
-    let found = reading::record_at(bytes);
-    counted(found.refusal, found.place, found.bytes)
+    counted(reading::record_at(bytes))
 }
 
 // Writes the record of the graph value of these rows at the start of out, and nothing after it, and answers how many
@@ -83,8 +95,8 @@ pub extern "C" fn cafruzek_write_record<'a, 'b>(
     starts: u32,
     out: &'b mut [u8],
 ) -> u64
-    ensures { (result ≡ packed_written (write_answer (graph_of order edges.now unknowns.now starts) out.old)) × (out.new ≡ buffer_after (graph_of order edges.now unknowns.now starts) out.old) }
+    ensures { (result ≡ counted (write_answer (graph_of order edges.now unknowns.now starts) out.old)) × (out.new ≡ buffer_after (graph_of order edges.now unknowns.now starts) out.old) }
 {
-    let done = writing::write_rows(order, edges, unknowns, starts, out);
-    counted(done.refusal, done.place, done.written)
+    let done = writing::write_rows(lent(order, edges, unknowns, starts), out);
+    counted(done)
 }

@@ -56,7 +56,7 @@ fn drawn(order: u32, code: u32) -> Graph
 // Is the graph judged "none"?
 fn is_smallest(graph: Graph) -> bool {
     let mut literals = [0i32; 496];
-    let judged = search::judge(graph, 1, u32::MAX, &mut literals);
+    let judged = search::judge(&graph, 1, u32::MAX, &mut literals);
     let verdict = judged.verdict;
     match verdict {
         Verdict::Nothing { steps: _ } => true,

@@ -1,22 +1,23 @@
 -- A reader over the caller's bytes: the bytes themselves and a bit place, what a field gives and where it leaves the place.
-use Rattle.std.specs.Prelude.{ℕ, ◌+◌, ◌^◌, List, length, eqb, ltb}
+use Rattle.std.specs.Prelude.{ℕ, ◌+◌, ◌^◌, List, length, ltb, Result, Err, is_ok}
 use Rattle.std.specs.Borrow.{Bor}
 use Rattle.laws.specs.Test.{unless}
-use Rattle.fields.specs.declared.Value.{Value}
+use Rattle.refusal.specs.declared.Refusal.{Refusal}
+use Rattle.refusal.specs.declared.Refusal.TheVariants.{PastTheBytes}
 use Rattle.fields.specs.declared.reader.Reader.{Reader}
 use Rattle.fields.specs.declared.reader.Taken.{Taken}
 use Rattle.fields.specs.declared.reader.Two.{Two}
-use Rattle.fields.specs.Field.{value, field_answer}
+use Rattle.fields.specs.Field.{field_answer}
 
-abbrev pub taken : Value → ℕ → Taken
+abbrev pub taken : Result ℕ Refusal → ℕ → Taken
 taken found next = record { found = found; next = next }
 
 -- The field from a place on, and the place after it: past the field, or the same where the field is refused.
 -- Places are numbers below 2 ^ 64, so a field that would leave the place at 2 ^ 64 or past it is refused 1 as well.
 unfoldable pub taken_at : List ℕ → ℕ → ℕ → Taken
 taken_at s place width =
-    unless (eqb (field_answer s place width).refusal 0) (taken (field_answer s place width) place)
-    (unless (ltb (place + width) (2 ^ 64)) (taken (value 1 (length s) 0) place)
+    unless (is_ok (field_answer s place width)) (taken (field_answer s place width) place)
+    (unless (ltb (place + width) (2 ^ 64)) (taken (Err (PastTheBytes (length s))) place)
     (taken (field_answer s place width) (place + width)))
 
 -- a reader is opened over the caller's own bytes, at place 0

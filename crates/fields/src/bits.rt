@@ -3,13 +3,6 @@ ghost use Rattle.std.specs.Prelude.{◌≡◌, ◌+◌, ◌≤◌, ◌<◌, ◌^
 ghost use Rattle.laws.specs.Num.{num};
 ghost use Rattle.fields.specs.Bits.{bit_of};
 
-// A byte as a wider number.
-pub fn wide(byte: u8) -> u32
-    ensures { (result ≡ byte) × (result < 256) }
-{
-    byte as u32
-}
-
 // The bit that stands ahead bits after a place, 0 past the bytes.
 pub fn bit_after(bytes: &[u8], place: usize, ahead: usize) -> u32
     requires { ahead < 2 ^ 32 }
@@ -18,7 +11,7 @@ pub fn bit_after(bytes: &[u8], place: usize, ahead: usize) -> u32
     let offset = place % 8 + ahead;
     let byte = place / 8 + offset / 8;
     if byte < bytes.len() {
-        (wide(bytes[byte]) >> (7 - offset % 8)) % 2
+        (u32::from(bytes[byte]) >> (7 - offset % 8)) % 2
     } else {
         0
     }
@@ -29,11 +22,9 @@ pub fn number_at(bytes: &[u8], place: usize, width: usize) -> u32
     requires { width ≤ 7 }
     ensures { (result ≡ num (bit_of bytes.now) place width) × (result < 128) }
 {
-    let mut made = 0u32;
-    let mut t = 0usize;
-    while t < width {
+    let mut made = 0;
+    for t in 0..width {
         made = 2 * made + bit_after(bytes, place, t);
-        t += 1;
     }
     made
 }

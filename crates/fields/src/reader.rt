@@ -2,7 +2,8 @@
 ghost use Rattle.std.specs.Prelude.{◌≡◌};
 ghost use Rattle.fields.specs.Reader.{taken_at, opened, field_ahead, moved_to, two_at};
 
-use crate::{Value, field};
+use crate::field;
+use refusal::Refusal;
 
 // The caller's bytes, and the bit place of the next field.
 #[derive(Clone, Copy)]
@@ -14,20 +15,17 @@ pub struct Reader<'a> {
 // A field that was read, or why not, and the bit place after it.
 #[derive(Clone, Copy)]
 pub struct Taken {
-    pub found: Value,
+    pub found: Result<u32, Refusal>,
     pub next: usize,
 }
 
 // Two fields, one after the other, and the bit place after them.
 #[derive(Clone, Copy)]
 pub struct Two {
-    pub first: Value,
-    pub second: Value,
+    pub first: Result<u32, Refusal>,
+    pub second: Result<u32, Refusal>,
     pub next: usize,
 }
-
-// The last bit place that there is.
-const LAST: usize = 18446744073709551615;
 
 // The field at a bit place, and the bit place after it: past the field, or the same where the field is refused.
 // Refuses what a field refuses, and 1 for a field that ends past the last bit place, with the number of bytes.
@@ -35,23 +33,15 @@ pub fn field_from(bytes: &[u8], place: usize, width: u32) -> Taken
     ensures { result ≡ taken_at bytes.now place width }
 {
     let found = field(bytes, place, width);
-    if found.refusal != 0 {
+    if found.is_err() {
         return Taken { found, next: place };
     }
-    if LAST - place < width as usize {
-        let past = Value {
-            refusal: 1,
-            place: bytes.len(),
-            value: 0,
-        };
-        return Taken {
-            found: past,
+    match place.checked_add(width as usize) {
+        Some(next) => Taken { found, next },
+        None => Taken {
+            found: Err(Refusal::PastTheBytes { given: bytes.len() }),
             next: place,
-        };
-    }
-    Taken {
-        found,
-        next: place + width as usize,
+        },
     }
 }
 
@@ -64,7 +54,7 @@ impl<'a> Reader<'a> {
     }
 
     // The field of this width at the reader's place, which moves past it. A refused field leaves the place.
-    pub fn take(&mut self, width: u32) -> Value
+    pub fn take(&mut self, width: u32) -> Result<u32, Refusal>
         ensures { (result ≡ (field_ahead self.old width).found) × (self.new ≡ moved_to self.old (field_ahead self.old width).next) }
     {
         let taken = field_from(self.bytes, self.place, width);

@@ -8,7 +8,7 @@
 
 use graph::{Graph, Totals};
 use input::read_full;
-use refusal::Refusal;
+use refusal::{Refusal, told};
 use show::{from_column, text};
 use std::io;
 use std::io::Print;
@@ -49,12 +49,9 @@ fn arrangement(row: &[u8], column: u32) -> [u8; 32] {
 
 // ---- what is printed
 
-// The number of a refusal and its place, or zeros where there is none.
-fn show_refusal(to: &impl Print, refusal: Option<Refusal>) -> io::Result<()> {
-    let (number, place) = match refusal {
-        Some(why) => (why.number(), why.place()),
-        None => (0, 0),
-    };
+// The number and the place of an answer's refusal, or zeros.
+fn show_told<T>(to: &impl Print, answer: &Result<T, Refusal>) -> io::Result<()> {
+    let (number, place) = told(answer);
     print!(to; " refusal {number}, place {place}")
 }
 
@@ -68,7 +65,7 @@ fn show_graph(to: &impl Print, graph: Graph) -> io::Result<()> {
 
 // Places 1 to 4.
 fn show_arrangement(to: &impl Print, answer: Result<[u8; 32], Refusal>) -> io::Result<()> {
-    show_refusal(to, answer.err())?;
+    show_told(to, &answer)?;
     let [a, b, c, d, ..] = answer.unwrap_or([0; 32]);
     println!(to; ", vertices {a} {b} {c} {d}")
 }
@@ -85,26 +82,22 @@ fn formed(to: &impl Print, row: &[u8]) -> io::Result<()> {
 
 fn read(to: &impl Print, row: &[u8]) -> io::Result<()> {
     let answer = graph(row).read(digit_at(row, 11), digit_at(row, 12));
-    show_refusal(to, answer.err())?;
+    show_told(to, &answer)?;
     println!(to; ", value {}", answer.unwrap_or(0))
 }
 
 fn set(to: &impl Print, row: &[u8]) -> io::Result<()> {
-    match graph(row).set(digit_at(row, 11), digit_at(row, 12), digit_at(row, 13)) {
-        Ok(graph) => {
-            show_refusal(to, None)?;
-            show_graph(to, graph)
-        }
-        Err(unset) => {
-            show_refusal(to, Some(unset.refusal))?;
-            show_graph(to, unset.graph)
-        }
+    let answer = graph(row).set(digit_at(row, 11), digit_at(row, 12), digit_at(row, 13));
+    show_told(to, &answer.map_err(|unset| unset.refusal))?;
+    match answer {
+        Ok(graph) => show_graph(to, graph),
+        Err(unset) => show_graph(to, unset.graph),
     }
 }
 
 fn count(to: &impl Print, row: &[u8]) -> io::Result<()> {
     let answer = graph(row).count();
-    show_refusal(to, answer.err())?;
+    show_told(to, &answer)?;
     let Totals {
         edges,
         non_edges,
@@ -119,13 +112,13 @@ fn count(to: &impl Print, row: &[u8]) -> io::Result<()> {
 
 fn count_at(to: &impl Print, row: &[u8]) -> io::Result<()> {
     let answer = graph(row).count_at(digit_at(row, 11));
-    show_refusal(to, answer.err())?;
+    show_told(to, &answer)?;
     println!(to; ", edges {}", answer.unwrap_or(0))
 }
 
 fn relabel(to: &impl Print, row: &[u8]) -> io::Result<()> {
     let answer = graph(row).relabel(arrangement(row, 11));
-    show_refusal(to, answer.err())?;
+    show_told(to, &answer)?;
     show_graph(to, answer.unwrap_or(Graph::none()))
 }
 

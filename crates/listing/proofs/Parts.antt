@@ -1,17 +1,26 @@
 -- The code of the lines of a part, one after the other.
-use Prim.Native.Nat.{ℕ, zero, suc, ◌+◌, ◌-◌, ◌≤◌, ◌<◌}
+use Prim.Native.Nat.{ℕ, suc, ◌+◌, ◌-◌, ◌≤◌, ◌<◌}
 use native.Mathlib.Omega.{arith}
 use native.Mathlib.Numerals.{add-one}
 use mathlib.Core.Path.{◌≡◌, refl, sym, ap, ◌∙◌}
-use mathlib.Core.List.{List, [], ◌∷◌, ◌++◌, append-nil, append_assoc}
+use mathlib.Core.Bool.{true}
+use mathlib.Core.List.{List, [], ◌++◌, append-nil, append_assoc}
 use lib.ListN.{length, take, drop, length-append, length-drop}
 use lib.Seq.{length-take-le, take_all, take-append_seam, take-append-add, drop-length, drop-drop}
 use borrow.Rule.Slice.PartMut.{put_mid}
+use Rattle.std.specs.Prelude.{Result, Ok, Err, is_ok}
+use Rattle.std.specs.Result.{result_and}
+use Rattle.refusal.specs.declared.Refusal.{Refusal}
+use Rattle.refusal.proofs.NumberLaws.{given_told}
+use Rattle.graph.specs.declared.Graph.{Graph}
+use Rattle.fields.specs.Bits.{bit_of}
+use Rattle.record.specs.Reading.{graph_in}
 use Rattle.record.specs.Answers.{record_at, read_answer, rest_of}
+use Rattle.record.proofs.ReadWritten.{read_takes}
 use Rattle.listing.specs.declared.lines.Turn.{Turn}
 use Rattle.listing.specs.Listing.{record_line, lines_up_to, lines_of}
 use Rattle.listing.specs.Progress.{Put, Listed}
-use Rattle.listing.proofs.Book.{rest_shorter, lines_go_on, lines_end}
+use Rattle.listing.proofs.Book.{lines_go_on, lines_end}
 
 -- the lines of no bytes
 pub no_lines : (number : ℕ) → lines_of number [] ≡ []
@@ -49,13 +58,14 @@ module _ (out last text : List ℕ) (used written : ℕ) (is_written : written �
   pub put_shown : take (used + written) (put_mid used (length out - used) out last) ≡ take used out ++ text
   put_shown = rw is_last (take_middle (take used out) text (drop (length text) (drop used out)) (drop (length out - used) (drop used out)) used written used_long (sym is_written))
 
--- what is left of a list after a drop is what is left after as many as it took
-drop_taken : (b : ℕ) (s : List ℕ) → drop (length s - length (drop b s)) s ≡ drop b s
-drop_taken zero s = let none : length s - length s ≡ 0 = omega arith in rw none
-drop_taken (suc b) [] = refl
-drop_taken (suc b) (x ∷ s) =
-    let more : suc (length s) - length (drop b s) ≡ suc (length s - length (drop b s)) = omega (arith, length-drop b s) in
-    rw more (drop_taken b s)
+-- reading refuses exactly where there is no record
+reads_so : (s : List ℕ) (r : Result ℕ Refusal) → record_at s ≡ r → is_ok (read_answer s) ≡ is_ok r
+unfolding read_answer
+reads_so s r e = rw e (alike r (graph_in (bit_of s)))
+  where
+    alike : (a : Result ℕ Refusal) (g : Graph) → is_ok {E = Refusal} (result_and a (Ok g)) ≡ is_ok a
+    alike (Ok n) g = refl
+    alike (Err e) g = refl
 
 -- a line more
 module _ (book : List ℕ) (at number : ℕ) (out : List ℕ) (used from n : ℕ) (last : List ℕ) (turn : Turn)
@@ -93,14 +103,14 @@ module _ (book : List ℕ) (at number : ℕ) (out : List ℕ) (used from n : ℕ
   some : 1 ≤ length (drop from book)
   some = rw (length-drop from book) (omega (arith, before.below))
 
-  -- whether the record was refused
-  refusal_is : turn.refusal ≡ (read_answer (drop from book)).refusal
-  refusal_is = rw bytes_are at put.refusal_is
+  -- what its record takes, or its refusal
+  taken_is : turn.taken ≡ record_at (drop from book)
+  taken_is = rw bytes_are at put.taken_is
 
   -- a refused record ends the list
-  pub ends_refused : (turn.refusal ≡ 0 → ⊥) → Listed book at number (put_mid used (length out - used) out last) (record { used = used + turn.written; at = length book; number = n + 1 })
-  ends_refused h =
-      let ended = lines_end n (drop from book) some (λ (e : (read_answer (drop from book)).refusal ≡ 0). h (refusal_is ∙ e)) in
+  pub ends_refused : (e : Refusal) → turn.taken ≡ Err e → Listed book at number (put_mid used (length out - used) out last) (record { used = used + turn.written; at = length book; number = n + 1 })
+  ends_refused e refused =
+      let ended = lines_end n (drop from book) some (reads_so (drop from book) (Err e) (sym taken_is ∙ refused)) in
       record {
         shown = rw (after_is, drop-length book, no_lines (n + 1), append-nil (take used out ++ record_line n (drop from book)), ← ended) before.shown;
         onward = omega arith;
@@ -109,36 +119,35 @@ module _ (book : List ℕ) (at number : ℕ) (out : List ℕ) (used from n : ℕ
         room = rw after_long (omega arith);
       }
 
-  module _ (fine : turn.refusal ≡ 0) where
-    -- it was accepted
-    read_fine : (read_answer (drop from book)).refusal ≡ 0
-    read_fine = sym refusal_is ∙ fine
+  module _ (taken : ℕ) (accepted : turn.taken ≡ Ok taken) where
+    -- the record at the place
+    found : record_at (drop from book) ≡ Ok taken
+    found = sym taken_is ∙ accepted
 
-    -- what follows it is shorter
-    shorter : length (rest_of (drop from book)) < length (drop from book)
-    shorter = rest_shorter (drop from book) read_fine some
+    -- it is read
+    read_fine : is_ok (read_answer (drop from book)) ≡ true
+    read_fine = reads_so (drop from book) (Ok taken) found
 
-    -- the bytes of the record
-    taken_is : turn.taken ≡ length (drop from book) - length (rest_of (drop from book))
-    taken_is = rw bytes_are at put.taken_is
-
-    -- the record takes some bytes, and no more than there are
-    pub takes_some : (1 ≤ turn.taken) × (from + turn.taken ≤ length book)
-    takes_some = let all = length-drop from book in (omega (arith, shorter, taken_is), omega (arith, taken_is, all, before.below))
+    -- it takes some bytes, and no more than there are
+    pub takes_some : (1 ≤ taken) × (from + taken ≤ length book)
+    takes_some =
+        let least = rw found at (read_takes (drop from book) (given_told (read_answer (drop from book)) read_fine)).0 in
+        let most = rw (bytes_are, found, length-drop from book) at put.within in
+        (least, omega (arith, most, before.below))
 
     -- what follows it stands after these
-    rest_at : drop (from + turn.taken) book ≡ rest_of (drop from book)
+    rest_at : drop (from + taken) book ≡ rest_of (drop from book)
     unfolding rest_of
-    rest_at = rw (← drop-drop turn.taken from book, taken_is) (drop_taken (record_at (drop from book)).bytes (drop from book))
+    rest_at = rw (found, ← drop-drop taken from book)
 
     -- the lines so far, the new one and those that follow
-    shown_on : take (used + turn.written) (put_mid used (length out - used) out last) ++ lines_of (n + 1) (drop (from + turn.taken) book) ≡ lines_of number (drop at book)
+    shown_on : take (used + turn.written) (put_mid used (length out - used) out last) ++ lines_of (n + 1) (drop (from + taken) book) ≡ lines_of number (drop at book)
     shown_on =
         rw (after_is, rest_at, add-one n, append_assoc (take used out) (record_line n (drop from book)) (lines_of (suc n) (rest_of (drop from book))), ← lines_go_on n (drop from book) some read_fine)
         before.shown
 
     -- the list may end here
-    pub ends_here : Listed book at number (put_mid used (length out - used) out last) (record { used = used + turn.written; at = from + turn.taken; number = n + 1 })
+    pub ends_here : Listed book at number (put_mid used (length out - used) out last) (record { used = used + turn.written; at = from + taken; number = n + 1 })
     ends_here =
         record {
           shown = shown_on;
@@ -149,7 +158,7 @@ module _ (book : List ℕ) (at number : ℕ) (out : List ℕ) (used from n : ℕ
         }
 
     -- or go on
-    pub goes_on : (from + turn.taken ≡ length book → ⊥) → 8192 ≤ length (put_mid used (length out - used) out last) - (used + turn.written) → SoFar book at number (put_mid used (length out - used) out last) (used + turn.written) (from + turn.taken) (n + 1)
+    pub goes_on : (from + taken ≡ length book → ⊥) → 8192 ≤ length (put_mid used (length out - used) out last) - (used + turn.written) → SoFar book at number (put_mid used (length out - used) out last) (used + turn.written) (from + taken) (n + 1)
     goes_on h r =
         record {
           shown = shown_on;

@@ -1,7 +1,10 @@
 -- The listing of a book.
-use Rattle.std.specs.Prelude.{ℕ, zero, suc, List, [], ◌∷◌, ◌++◌, ℤ, pos, length, replicate, eqb, leb}
+use Rattle.std.specs.Prelude.{ℕ, zero, suc, List, [], ◌∷◌, ◌++◌, ℤ, pos, length, replicate, leb, Result, Ok, Err, is_ok}
 use Rattle.laws.specs.Test.{pick}
-use Rattle.record.specs.declared.Record.{Record}
+use Rattle.refusal.specs.declared.Refusal.{Refusal}
+use Rattle.refusal.specs.Numbers.{number_of, place_of, value_told}
+use Rattle.graph.specs.declared.Graph.{Graph}
+use Rattle.graph.specs.Answers.{no_graph}
 use Rattle.record.specs.Answers.{read_answer, rest_of}
 use Rattle.judging.specs.declared.Verdict.TheVariants.{Refused}
 use Rattle.judging.specs.declared.Judged.{Judged}
@@ -21,18 +24,23 @@ abbrev pub scratch : List ℤ
 scratch = replicate 496 (pos 0)
 
 -- the judgement of a record that was read, or its refusal
-unfoldable pub judged_record : Record → ℕ → Judged
-judged_record found room =
-    pick (eqb found.refusal 0) (judge_answer mode found.graph budget room) (without (Refused found.refusal found.place))
+unfoldable pub judged_record : Result Graph Refusal → ℕ → Judged
+judged_record (Ok g) room = judge_answer mode g budget room
+judged_record (Err e) room = without (Refused (number_of e) (place_of e))
 
 -- the room for literals afterwards
-unfoldable pub literals_of : Record → List ℤ → List ℤ
-literals_of found buffer = pick (eqb found.refusal 0) (judge_buffer mode found.graph budget buffer) buffer
+unfoldable pub literals_of : Result Graph Refusal → List ℤ → List ℤ
+literals_of (Ok g) buffer = judge_buffer mode g budget buffer
+literals_of (Err e) buffer = buffer
+
+-- the order of a record that was read, or 0
+abbrev pub order_of : Result Graph Refusal → ℕ
+order_of found = (value_told no_graph found).order
 
 -- the line of the record at the start of the bytes s
 unfoldable pub record_line : ℕ → List ℕ → List ℕ
 record_line number s =
-    judged_line number (read_answer s).graph.order (judged_record (read_answer s) 496) (literals_of (read_answer s) scratch)
+    judged_line number (order_of (read_answer s)) (judged_record (read_answer s) 496) (literals_of (read_answer s) scratch)
 
 -- the lines of the records that the bytes s hold back to back, of which k at most are read; a refused one is the last
 unfoldable pub lines_up_to : ℕ → ℕ → List ℕ → List ℕ
@@ -40,7 +48,7 @@ lines_up_to zero number s = []
 lines_up_to (suc k) number [] = []
 lines_up_to (suc k) number (b ∷ s) =
     record_line number (b ∷ s) ++
-    pick (eqb (read_answer (b ∷ s)).refusal 0) (lines_up_to k (suc number) (rest_of (b ∷ s))) []
+    pick (is_ok (read_answer (b ∷ s))) (lines_up_to k (suc number) (rest_of (b ∷ s))) []
 
 -- all of them: a record takes a byte at least
 unfoldable pub lines_of : ℕ → List ℕ → List ℕ

@@ -1,6 +1,6 @@
 -- What putting a line, or a part of the listing, into a buffer comes to.
-use Rattle.std.specs.Prelude.{ℕ, ◌+◌, ◌-◌, ◌≤◌, ◌<◌, ◌≡◌, List, [], ◌++◌, length, take, drop}
-use Rattle.record.specs.Answers.{read_answer, rest_of}
+use Rattle.std.specs.Prelude.{ℕ, ◌+◌, ◌≤◌, ◌<◌, ◌≡◌, List, [], ◌++◌, length, take, drop}
+use Rattle.record.specs.Answers.{record_at, taken_from}
 use Rattle.listing.specs.declared.lines.Turn.{Turn}
 use Rattle.listing.specs.declared.lines.Progress.{Progress}
 use Rattle.listing.specs.Listing.{record_line, lines_of, listing_of}
@@ -10,8 +10,8 @@ pub record Put (number : ℕ) (s old out : List ℕ) (r : Turn) : Type 0 where
   pub length_is : r.written ≡ length (record_line number s)
   pub text_is : out ≡ record_line number s ++ drop (length (record_line number s)) old
   pub short : r.written ≤ 8192
-  pub taken_is : r.taken ≡ length s - length (rest_of s)
-  pub refusal_is : r.refusal ≡ (read_answer s).refusal
+  pub taken_is : r.taken ≡ record_at s
+  pub within : taken_from s ≤ length s
 
 -- the part in the buffer out, and the lines from the place where it stopped, are the listing of the book
 pub record Begun (book out : List ℕ) (r : Progress) : Type 0 where

@@ -1,18 +1,19 @@
 // The listing of a book, put into a lent buffer part after part.
 ghost use Rattle.std.specs.Prelude.{◌≡◌, ◌+◌, ◌≤◌, ◌<◌, length};
 ghost use Rattle.judging.specs.Answer.{without};
+ghost use Rattle.refusal.specs.Numbers.{number_of, place_of};
 ghost use Rattle.listing.specs.Listing.{judged_record, literals_of};
 ghost use Rattle.listing.specs.Progress.{Put, Begun, Listed};
 
+use graph::Graph;
 use judging::{Judged, Verdict};
-use record::Record;
+use refusal::Refusal;
 
-// What putting one line came to: the bytes of the line, the bytes of the record, and its refusal, if any.
+// What putting one line came to: the bytes of the line, and the bytes of its record, or why it was refused.
 #[derive(Clone, Copy)]
 struct Turn {
     written: usize,
-    taken: usize,
-    refusal: u32,
+    taken: Result<usize, Refusal>,
 }
 
 // What putting a part of the listing came to: the bytes of the part, and the place and number of the next record.
@@ -24,25 +25,27 @@ pub struct Progress {
 }
 
 // A refusal with nothing beside it.
-fn refused(number: u32, place: usize) -> Judged
-    ensures { result ≡ without (Verdict.Refused number place) }
+fn refused(refusal: Refusal) -> Judged
+    ensures { result ≡ without (Verdict.Refused (number_of refusal) (place_of refusal)) }
 {
     Judged {
-        verdict: Verdict::Refused { number, place },
+        verdict: Verdict::Refused {
+            number: refusal.number(),
+            place: refusal.place(),
+        },
         arrangement: [0u8; 32],
         literals: 0,
     }
 }
 
 // The judgement of a record that was read, or its refusal.
-fn judged_record(found: Record, literals: &mut [i32]) -> Judged
+fn judged_record(found: Result<Graph, Refusal>, literals: &mut [i32]) -> Judged
     ensures { (result ≡ judged_record found (length literals.old)) × (literals.new ≡ literals_of found literals.old) }
 {
-    if found.refusal != 0 {
-        return refused(found.refusal, found.place);
+    match found {
+        Ok(graph) => search::judge(&graph, 1, 1000000, literals),
+        Err(refusal) => refused(refusal),
     }
-    let graph = found.graph;
-    search::judge(graph, 1, 1000000, literals)
 }
 
 // Puts the line of the record at the start of bytes at the start of out.
@@ -51,16 +54,12 @@ fn put_record(bytes: &[u8], number: u32, out: &mut [u8]) -> Turn
     ensures { Put number bytes.now out.old out.new result }
 {
     let found = reading::read(bytes);
-    let graph = found.graph;
+    let graph = found.unwrap_or(Graph::none());
     let mut literals = [0i32; 496];
     let judged = judged_record(found, &mut literals);
     let written = line::line(out, number, graph.order, judged, &literals);
-    let rest = reading::rest(bytes);
-    Turn {
-        written,
-        taken: bytes.len() - rest.len(),
-        refusal: found.refusal,
-    }
+    let taken = reading::record_at(bytes);
+    Turn { written, taken }
 }
 
 // Puts the first part of a book's listing at the start of out: the header, and where the book is too long the one line
@@ -77,7 +76,7 @@ pub fn first_part(book: &[u8], out: &mut [u8]) -> Progress
             number: 1,
         };
     }
-    let more = line::line(&mut out[used..], 0, 0, refused(10, 0), &[]);
+    let more = line::line(&mut out[used..], 0, 0, refused(Refusal::LongBook), &[]);
     Progress {
         used: used + more,
         at: book.len(),
@@ -98,22 +97,15 @@ pub fn next_part(book: &[u8], at: usize, number: u32, out: &mut [u8]) -> Progres
         let turn = put_record(&book[from..], n, &mut out[used..]);
         used += turn.written;
         n += 1;
-        if turn.refusal != 0 {
+        let Ok(taken) = turn.taken else {
             return Progress {
                 used,
                 at: book.len(),
                 number: n,
             };
-        }
-        from += turn.taken;
-        if from == book.len() {
-            return Progress {
-                used,
-                at: from,
-                number: n,
-            };
-        }
-        if out.len() - used < 8192 {
+        };
+        from += taken;
+        if from == book.len() || out.len() - used < 8192 {
             return Progress {
                 used,
                 at: from,

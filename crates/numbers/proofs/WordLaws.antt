@@ -1,13 +1,13 @@
 -- A number of many bits, taken from eight bytes and one more.
 use Prim.Native.Nat.{ℕ, ◌+◌, ◌-◌, ◌*◌, ◌/◌, ◌%◌, ◌^◌, ◌≤◌, ◌<◌}
 use mathlib.Core.Path.{◌≡◌, refl, sym, ap, ap₂, ◌∙◌}
-use mathlib.Core.List.{List}
-use native.Mathlib.Nat.{lt_of_lt_of_le, mul_assoc, mul-mod_left, add-mul, add-zero}
+use mathlib.Core.List.{List, [], ◌∷◌}
+use native.Mathlib.Nat.{lt_of_lt_of_le, mul-mod_left, add-zero}
 use native.Mathlib.Omega.{arith}
 use lib.ListN.{length, get_or, get_or-eq_default}
-use lib.Bits.{bit_or, or_shifted}
-use lib.Pow.{low, mod-pow-add, pow-add, pow_mono, shl_lt, shl-shr, shr-shr}
-use mir.Syntax.{w64}
+use lib.Pow.{low, mod-pow-add, pow_mono, shl-shr, shr-shr}
+use mir.Syntax.{w8, w64}
+use Rattle.std.specs.Int.{from_be_bytes}
 use mir.Val.{Fits}
 use Rattle.laws.specs.Num.{num, num_append, num_below, num_of_zeros, num_top}
 use Rattle.fields.specs.Bits.{bit_of}
@@ -48,31 +48,26 @@ pub bytes_done : (s : List ℕ) (k t made : ℕ) → made ≡ num (bit_of s) (8 
     → made ≡ num (bit_of s) (8 * k) 64
 bytes_done s k t made is_made a b = let e : 8 * t ≡ 64 = omega arith in is_made ∙ ap (num (bit_of s) (8 * k)) e
 
--- ---- eight bytes side by side
+-- ---- eight bytes at once
 
--- a byte beside those before it, with room for others
-beside : (made x j : ℕ) → x < 256 → bit_or (made * 2 ^ (8 + j)) (x * 2 ^ j) ≡ (made * 256 + x) * 2 ^ j
-beside made x j l =
-    or_shifted made (8 + j) (x * 2 ^ j) (shl_lt 8 j l)
-    ∙ ap (λ (y : ℕ). made * y + x * 2 ^ j) (pow-add 2 8 j)
-    ∙ ap (λ (y : ℕ). y + x * 2 ^ j) (sym (mul_assoc made 256 (2 ^ j)))
-    ∙ sym (add-mul (made * 256) x (2 ^ j))
+module _ (s : List ℕ) (k : ℕ) (small : (i : ℕ) → Fits w8 (get_or s i 0)) where
+  abbrev byte : ℕ → ℕ
+  byte i = get_or s (k + i) 0
 
-module _ (s : List ℕ) (k a b c d e f g h : ℕ) (is_a : a ≡ get_or s k 0) (is_b : b ≡ get_or s (k + 1) 0) (is_c : c ≡ get_or s (k + 2) 0) (is_d : d ≡ get_or s (k + 3) 0)
-    (is_e : e ≡ get_or s (k + 4) 0) (is_f : f ≡ get_or s (k + 5) 0) (is_g : g ≡ get_or s (k + 6) 0) (is_h : h ≡ get_or s (k + 7) 0)
-    (la : a < 256) (lb : b < 256) (lc : c < 256) (ld : d < 256) (le : e < 256) (lf : f < 256) (lg : g < 256) (lh : h < 256) where
-  pub eight_is : bit_or (bit_or (bit_or (bit_or (bit_or (bit_or (bit_or (a * 2 ^ 56) (b * 2 ^ 48)) (c * 2 ^ 40)) (d * 2 ^ 32)) (e * 2 ^ 24)) (f * 2 ^ 16)) (g * 2 ^ 8)) h
-      ≡ num (bit_of s) (8 * k) 64
-  eight_is =
-      rw (beside a b 48 lb, beside (a * 256 + b) c 40 lc, beside ((a * 256 + b) * 256 + c) d 32 ld, beside (((a * 256 + b) * 256 + c) * 256 + d) e 24 le)
-      (rw (beside ((((a * 256 + b) * 256 + c) * 256 + d) * 256 + e) f 16 lf, beside (((((a * 256 + b) * 256 + c) * 256 + d) * 256 + e) * 256 + f) g 8 lg)
-      (or_shifted _ 8 h lh
-      ∙ bytes_more s k 7 _ h
-      (bytes_more s k 6 _ g
-      (bytes_more s k 5 _ f
-      (bytes_more s k 4 _ e (bytes_more s k 3 _ d (bytes_more s k 2 _ c (bytes_more s k 1 a b (byte_is s k a is_a la) is_b lb) is_c lc) is_d ld) is_e le) is_f lf)
-      is_g lg)
-      is_h lh))
+  below : (i : ℕ) → byte i < 256
+  below i = (small (k + i)).fits
+
+  pub eight_is : (r : ℕ) → r ≡ from_be_bytes w64 (get_or s k 0 ∷ byte 1 ∷ byte 2 ∷ byte 3 ∷ byte 4 ∷ byte 5 ∷ byte 6 ∷ byte 7 ∷ []) → r ≡ num (bit_of s) (8 * k) 64
+  eight_is r e =
+      let one : ℕ = get_or s k 0 in
+      let whole : ((((((one * 256 + byte 1) * 256 + byte 2) * 256 + byte 3) * 256 + byte 4) * 256 + byte 5) * 256 + byte 6) * 256 + byte 7 ≡ num (bit_of s) (8 * k) 64
+      = bytes_more s k 7 _ (byte 7)
+      (bytes_more s k 6 _ (byte 6)
+      (bytes_more s k 5 _ (byte 5)
+      (bytes_more s k 4 _ (byte 4) (bytes_more s k 3 _ (byte 3) (bytes_more s k 2 _ (byte 2) (bytes_more s k 1 one (byte 1) (byte_is s k one refl (small k).fits) refl (below 1)) refl (below 2)) refl (below 3)) refl (below 4)) refl (below 5))
+      refl (below 6))
+      refl (below 7) in
+      omega arith
 
 -- what is shifted out is cut off
 moved : (f : ℕ → ℕ) → ((k : ℕ) → f k < 2) → (a p q w : ℕ) → w ≡ num f a (p + q)

@@ -9,18 +9,11 @@ ghost use Rattle.std.specs.Prelude.{◌≡◌, ◌+◌, ◌*◌, ◌≤◌, ◌<
 ghost use Rattle.laws.specs.Num.{num};
 ghost use Rattle.fields.specs.Bits.{bit_of};
 
-// A byte as a wider number.
-fn wide(byte: u8) -> u64
-    ensures { (result ≡ byte) × (result < 256) }
-{
-    byte as u64
-}
-
 // Byte k, from 0, or 0 past the bytes.
 pub fn byte_at(bytes: &[u8], k: usize) -> u64
     ensures { (result ≡ get_or bytes.now k 0) × (result < 256) }
 {
-    if k < bytes.len() { wide(bytes[k]) } else { 0 }
+    u64::from(bytes.get(k).copied().unwrap_or(0))
 }
 
 // The number that eight bytes make: the compiler loads it at once.
@@ -28,14 +21,16 @@ fn eight_at(bytes: &[u8], k: usize) -> u64
     requires { k + 8 ≤ length bytes.now }
     ensures { result ≡ num (bit_of bytes.now) (8 * k) 64 }
 {
-    (wide(bytes[k]) * 0x100_0000_0000_0000)
-        | (wide(bytes[k + 1]) * 0x1_0000_0000_0000)
-        | (wide(bytes[k + 2]) * 0x100_0000_0000)
-        | (wide(bytes[k + 3]) * 0x1_0000_0000)
-        | (wide(bytes[k + 4]) * 0x100_0000)
-        | (wide(bytes[k + 5]) * 0x1_0000)
-        | (wide(bytes[k + 6]) * 0x100)
-        | wide(bytes[k + 7])
+    u64::from_be_bytes([
+        bytes[k],
+        bytes[k + 1],
+        bytes[k + 2],
+        bytes[k + 3],
+        bytes[k + 4],
+        bytes[k + 5],
+        bytes[k + 6],
+        bytes[k + 7],
+    ])
 }
 
 // The same of few bytes, with zeros past them.
@@ -43,11 +38,9 @@ fn few_at(bytes: &[u8], k: usize) -> u64
     requires { k ≤ 2500 }
     ensures { result ≡ num (bit_of bytes.now) (8 * k) 64 }
 {
-    let mut made = 0u64;
-    let mut t = 0usize;
-    while t < 8 {
+    let mut made = 0;
+    for t in 0..8 {
         made = made * 256 + byte_at(bytes, k + t);
-        t += 1;
     }
     made
 }

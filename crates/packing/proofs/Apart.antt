@@ -7,9 +7,13 @@ use mathlib.Core.Logic.{◌≢◌, ◌↔◌}
 use borrow.Author.Tests.{le-leb, eq-eqb, ne_eqb}
 use lib.Dec.{eqb, leb}
 use Rattle.laws.specs.TestLaws.{pick_true, pick_false}
+use Rattle.std.specs.Prelude.{Ok, Err}
+use Rattle.refusal.specs.declared.Refusal.{Refusal}
+use Rattle.refusal.specs.Numbers.{number_of, place_of}
+use Rattle.refusal.proofs.NumberLaws.{number_range}
 use Rattle.judging.specs.declared.Judged.{Judged}
 use Rattle.judging.specs.Answer.{told}
-use Rattle.packing.specs.Packing.{fields, low_in, row_in, column_in, literals_in, code_in, place_told, refusal, code_told, low_told, packed, counted}
+use Rattle.packing.specs.Packing.{low_in, row_in, column_in, literals_in, code_in, place_told, refusal, code_told, low_told, packed, counted}
 use Rattle.packing.proofs.Fields.{Fitting, low_is, row_is, column_is, literals_are, code_is, word_fits}
 use Rattle.packing.proofs.Bounds.{place_fits_lem, Bounded, judged_fits}
 
@@ -83,15 +87,15 @@ module _ (budget : ℕ) (a : Judged) (b : Bounded budget a) (h : budget < 2 ^ 32
 -- ---- numbers of bytes
 
 -- the bytes and code 0, where nothing is refused
-pub counted_given : (number place count : ℕ) → number ≡ 0 → count ≤ 129 → (low_in (counted number place count) ≡ count) × (code_in (counted number place count) ≡ 0)
+pub counted_given : (count : ℕ) → count ≤ 129 → (low_in (counted (Ok count)) ≡ count) × (code_in (counted (Ok count)) ≡ 0)
 unfolding counted
-counted_given number place count e h =
+counted_given count h =
     let f : Fitting count 0 0 0 0 = omega arith in
-    rw (pick_true (eqb number 0) (fields count 0 0 0 0) (refusal number place) (eq-eqb number 0 e)) (low_is count 0 0 0 0 f, code_is count 0 0 0 0 f)
+    (low_is count 0 0 0 0 f, code_is count 0 0 0 0 f)
 
 -- the place and 128 more than the number of a refusal
-pub counted_refused : (number place count : ℕ) → number ≢ 0 → number < 128 → place ≤ 496 → (low_in (counted number place count) ≡ place) × (code_in (counted number place count) ≡ 128 + number)
+pub counted_refused : (e : Refusal) → place_of e ≤ 496 → (low_in (counted (Err e)) ≡ place_of e) × (code_in (counted (Err e)) ≡ 128 + number_of e)
 unfolding counted refusal
-counted_refused number place count ne h small =
-    let f : Fitting (place_told place) 0 0 0 (128 + number) = omega (arith, place_fits_lem place) in
-    rw (pick_false (eqb number 0) (fields count 0 0 0 0) (refusal number place) (ne_eqb number 0 ne)) (low_is (place_told place) 0 0 0 (128 + number) f ∙ place_itself place (omega arith), code_is (place_told place) 0 0 0 (128 + number) f)
+counted_refused e small =
+    let f : Fitting (place_told (place_of e)) 0 0 0 (128 + number_of e) = omega (arith, place_fits_lem (place_of e), number_range e) in
+    (low_is (place_told (place_of e)) 0 0 0 (128 + number_of e) f ∙ place_itself (place_of e) (omega arith), code_is (place_told (place_of e)) 0 0 0 (128 + number_of e) f)

@@ -2,5 +2,4 @@ pub mod Fields
 pub mod Bounds
 pub mod Apart
 pub mod Changed
-pub mod PackingCases
 pub mod JudgeCases

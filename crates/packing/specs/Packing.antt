@@ -1,7 +1,9 @@
 -- One number that holds an answer: bits 0..31 the steps or a place, 32..37 the row, 38..43 the column, 44..52 the number of
 -- literals, 56..63 the code.
-use Rattle.std.specs.Prelude.{ℕ, ◌+◌, ◌*◌, ◌/◌, ◌%◌, ◌^◌, eqb, leb}
+use Rattle.std.specs.Prelude.{ℕ, ◌+◌, ◌*◌, ◌/◌, ◌%◌, ◌^◌, eqb, leb, Result, Ok, Err}
 use Rattle.laws.specs.Test.{pick}
+use Rattle.refusal.specs.declared.Refusal.{Refusal}
+use Rattle.refusal.specs.Numbers.{number_of, place_of}
 use Rattle.judging.specs.declared.Judged.{Judged}
 use Rattle.judging.specs.Answer.{Told, told}
 
@@ -53,6 +55,7 @@ low_told t = pick (eqb t.kind 3) (place_told t.place) t.steps
 unfoldable pub packed : Judged → ℕ
 packed a = let t = told a.verdict in fields (low_told t) t.row t.column a.literals (code_told t)
 
--- a number of bytes, or the refusal where its number is not 0
-unfoldable pub counted : ℕ → ℕ → ℕ → ℕ
-counted number place count = pick (eqb number 0) (fields count 0 0 0 0) (refusal number place)
+-- a number of bytes, or the refusal
+unfoldable pub counted : Result ℕ Refusal → ℕ
+counted (Ok count) = fields count 0 0 0 0
+counted (Err e) = refusal (number_of e) (place_of e)

@@ -4,32 +4,30 @@
 
 #![tactic(auto)]
 
-ghost use Rattle.std.specs.Prelude.{◌≡◌, ◌<◌, ◌≤◌};
+ghost use Rattle.std.specs.Prelude.{◌≡◌, ◌<◌, ◌≤◌, IfOk};
 ghost use Rattle.packing.specs.Packing.{fields, place_told, refusal, counted, packed};
 ghost use Rattle.packing.specs.Telling.{Judgement, arranged_after};
 
 use judging::{Judged, Verdict};
+use refusal::Refusal;
 
 // The number with these fields.
 fn joined(low: u32, row: u32, column: u32, literals: usize, code: u32) -> u64
     requires { (row < 64) × (column < 64) × (literals < 512) × (code < 256) }
     ensures { result ≡ fields low row column literals code }
 {
-    low as u64
-        + ((row as u64) << 32)
-        + ((column as u64) << 38)
+    u64::from(low)
+        + (u64::from(row) << 32)
+        + (u64::from(column) << 38)
         + ((literals as u64) << 44)
-        + ((code as u64) << 56)
+        + (u64::from(code) << 56)
 }
 
 // A place as it is told: one that 32 bits can't hold is told as the largest number that they can.
 fn place_told(place: usize) -> u32
     ensures { result ≡ place_told place }
 {
-    if place <= 4294967295 {
-        return place as u32;
-    }
-    4294967295
+    u32::try_from(place).unwrap_or(u32::MAX)
 }
 
 // A refusal with its place.
@@ -40,15 +38,15 @@ pub fn refused(number: u32, place: usize) -> u64
     joined(place_told(place), 0, 0, 0, 128 + number)
 }
 
-// A number of bytes, or the refusal where its number is not 0.
-pub fn counted(number: u32, place: usize, count: usize) -> u64
-    requires { (number < 128) × (count ≤ 129) }
-    ensures { result ≡ counted number place count }
+// A number of bytes, or the refusal.
+pub fn counted(answer: Result<usize, Refusal>) -> u64
+    requires { IfOk answer (λ count. count ≤ 129) }
+    ensures { result ≡ counted answer }
 {
-    if number == 0 {
-        return joined(count as u32, 0, 0, 0, 0);
+    match answer {
+        Ok(count) => joined(count as u32, 0, 0, 0, 0),
+        Err(refusal) => refused(refusal.number(), refusal.place()),
     }
-    refused(number, place)
 }
 
 // Tells a judgement: the number, and the certificate of "smaller" in the arrangement.
@@ -56,8 +54,7 @@ pub fn tell(answer: Judged, arrangement: &mut [u8; 32]) -> u64
     requires { Judgement answer }
     ensures { (result ≡ packed answer) × (arrangement.new ≡ arranged_after answer arrangement.old) }
 {
-    let verdict = answer.verdict;
-    match verdict {
+    match answer.verdict {
         Verdict::Smaller { row, column, steps } => {
             let certificate = answer.arrangement;
             *arrangement = certificate;

@@ -1,21 +1,19 @@
 -- What the code of the pen comes to.
 use Prim.Native.Nat.{ℕ, zero, suc, ◌+◌, ◌-◌, ◌*◌, ◌/◌, ◌%◌, ◌^◌, ◌≤◌, ◌<◌}
-use native.Mathlib.Nat.{lt_of_lt_of_le, mul-le-mul_right, suc-mul}
+use native.Mathlib.Nat.{lt_of_lt_of_le, mod-lt, mul-le-mul_right, suc-mul}
 use native.Mathlib.Numerals.{add-one}
 use native.Mathlib.Omega.{arith}
 use mathlib.Core.Path.{◌≡◌, refl, ap, ◌∙◌}
 use mathlib.Core.List.{List}
 use lib.ListN.{length, set, length-set}
-use lib.Pow.{shl_exact, shr_lt, pow-add, pow_mono}
+use lib.Pow.{shl_exact, shr_lt, pow-add, pow_mono, pow_pos}
 use mir.Syntax.{w64}
 use mir.Val.{Fits}
 use borrow.Author.Tests.{lt-ltb, le-ltb}
 use Rattle.laws.specs.Test.{pick}
 use Rattle.pen.specs.declared.Pen.{Pen}
-use Rattle.pen.specs.Pushed.{stored, IsPushed}
-
-abbrev pub pen : ℕ → ℕ → ℕ → Pen
-pen s h k = record { stored = s; have = h; kept = k }
+use Rattle.pen.specs.Stored.{stored}
+use Rattle.pen.specs.Pushed.{IsPushed}
 
 -- ---- bytes of a word
 
@@ -66,13 +64,17 @@ module _ (p : Pen) (v w : ℕ) (few : p.have < 64) (small : p.kept < 2 ^ p.have)
     pub kept_fits : Fits w64 (p.kept * 2 ^ w % 2 ^ 64 + v)
     kept_fits = record { fits = rw kept_moved (lt_of_lt_of_le (put_before p.kept p.have w v small less) (pow_mono {j = 64} (omega arith))) }
 
-    pub push_waits : (o : List ℕ) → IsPushed o p v w o (pen p.stored (p.have + w) (p.kept * 2 ^ w % 2 ^ 64 + v))
+    -- as many as that hold
+    pub kept_below : p.kept * 2 ^ w % 2 ^ 64 + v < 2 ^ (p.have + w)
+    kept_below = rw kept_moved (put_before p.kept p.have w v small less)
+
+    pub push_waits : (o : List ℕ) (r : Pen) → r.stored ≡ p.stored → r.have ≡ p.have + w → r.kept ≡ p.kept * 2 ^ w % 2 ^ 64 + v → IsPushed o p v w o r
     unfolding pick
-    push_waits o =
+    push_waits o r a b c =
         record {
-          is_stored = rw (lt-ltb (p.have + w) 64 l);
-          is_have = rw (lt-ltb (p.have + w) 64 l);
-          is_kept = rw (lt-ltb (p.have + w) 64 l, kept_moved);
+          is_stored = rw (lt-ltb (p.have + w) 64 l) a;
+          is_have = rw (lt-ltb (p.have + w) 64 l) b;
+          is_kept = rw (lt-ltb (p.have + w) 64 l) (c ∙ rw kept_moved);
           is_out = rw (lt-ltb (p.have + w) 64 l);
         }
 
@@ -90,15 +92,19 @@ module _ (p : Pen) (v w : ℕ) (few : p.have < 64) (small : p.kept < 2 ^ p.have)
     word_fits =
         record { fits = rw word_moved (lt_of_lt_of_le (put_before p.kept p.have (64 - p.have) (v / 2 ^ (p.have + w - 64)) small top_small) (pow_mono {j = 64} (omega arith))) }
 
-    pub push_stores : (o o' : List ℕ) (q : ℕ)
+    pub push_stores : (o o' : List ℕ) (q : ℕ) (r : Pen)
         → o' ≡ stored o p.stored (p.kept * 2 ^ (64 - p.have) % 2 ^ 64 + v / 2 ^ (p.have + w - 64)) 8
         → q ≡ 2 ^ (p.have + w - 64)
-        → IsPushed o p v w o' (pen (p.stored + 8) (p.have + w - 64) (v % q))
+        → r.stored ≡ p.stored + 8 → r.have ≡ p.have + w - 64 → r.kept ≡ v % q → IsPushed o p v w o' r
     unfolding pick
-    push_stores o o' q is_o e =
+    push_stores o o' q r is_o e a b c =
         record {
-          is_stored = rw (le-ltb (p.have + w) 64 l);
-          is_have = rw (le-ltb (p.have + w) 64 l);
-          is_kept = rw (le-ltb (p.have + w) 64 l, e);
+          is_stored = rw (le-ltb (p.have + w) 64 l) a;
+          is_have = rw (le-ltb (p.have + w) 64 l) b;
+          is_kept = rw (le-ltb (p.have + w) 64 l) (c ∙ rw e);
           is_out = rw (le-ltb (p.have + w) 64 l) (is_o ∙ ap (λ (x : ℕ). stored o p.stored (x + v / 2 ^ (p.have + w - 64)) 8) word_moved);
         }
+
+-- a rest is below what it is a rest of
+pub rest_below : (v k q : ℕ) → q ≡ 2 ^ k → v % q < 2 ^ k
+rest_below v k q e = rw e (mod-lt v (pow_pos k))

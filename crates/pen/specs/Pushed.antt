@@ -1,12 +1,8 @@
 -- What one more field changes.
-use Rattle.std.specs.Prelude.{ℕ, zero, suc, ◌+◌, ◌-◌, ◌*◌, ◌/◌, ◌%◌, ◌^◌, ◌≡◌, List, set, ltb}
+use Rattle.std.specs.Prelude.{ℕ, ◌+◌, ◌-◌, ◌*◌, ◌/◌, ◌%◌, ◌^◌, ◌≡◌, List, ltb}
 use Rattle.laws.specs.Test.{pick}
 use Rattle.pen.specs.declared.Pen.{Pen}
-
--- the buffer with the first t bytes of a word of eight stored from a place on
-unfoldable pub stored : List ℕ → ℕ → ℕ → ℕ → List ℕ
-stored o at word zero = o
-stored o at word (suc t) = set (stored o at word t) (at + t) (word / 2 ^ (56 - 8 * t) % 256)
+use Rattle.pen.specs.Stored.{stored}
 
 -- how many bits wait then
 abbrev pub among : Pen → ℕ → ℕ

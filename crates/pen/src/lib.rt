@@ -4,7 +4,7 @@
 #![tactic(auto)]
 
 ghost use Rattle.std.specs.Prelude.{◌≡◌, ◌+◌, ◌*◌, ◌≤◌, ◌<◌, ◌^◌, length};
-ghost use Rattle.pen.specs.Pushed.{stored, IsPushed};
+ghost use Rattle.pen.specs.Stored.{stored};
 
 use words::limit_of;
 
@@ -14,6 +14,8 @@ pub struct Pen {
     pub stored: usize,
     pub have: u32,
     pub kept: u64,
+    pub ghost few: { have < 64 },
+    pub ghost small: { kept < 2 ^ have },
 }
 
 // Stores the first bytes of a word of eight, the most significant first.
@@ -21,32 +23,38 @@ pub fn store(out: &mut [u8], at: usize, word: u64, count: usize)
     requires { (count ≤ 8) × (at + count ≤ length out.old) }
     ensures { out.new ≡ stored out.old at word count }
 {
-    let mut t = 0usize;
-    while t < count {
+    for t in 0..count {
         out[at + t] = ((word >> (56 - 8 * t)) % 256) as u8;
-        t += 1;
     }
 }
 
-// One more field of w bits. Eight bytes that are full are stored.
-pub fn push(out: &mut [u8], pen: Pen, v: u64, w: u32) -> Pen
-    requires { (pen.have < 64) × (pen.kept < 2 ^ pen.have) × (w ≤ 62) × (v < 2 ^ w) × (8 * pen.stored + pen.have + w ≤ 8 * length out.old) }
-    ensures { IsPushed out.old pen v w out.new result }
-{
-    let have = pen.have + w;
-    if have < 64 {
-        return Pen {
-            stored: pen.stored,
-            have,
-            kept: (pen.kept << w) + v,
-        };
-    }
-    let over = have - 64;
-    let at = pen.stored;
-    store(out, at, (pen.kept << (64 - pen.have)) + (v >> over), 8);
-    Pen {
-        stored: at + 8,
-        have: over,
-        kept: v % limit_of(over),
+impl Pen {
+    ghost use Rattle.pen.specs.Pushed.{IsPushed};
+
+    // One more field of w bits. Eight bytes that are full are stored.
+    pub fn push(self, out: &mut [u8], v: u64, w: u32) -> Pen
+        requires { (w ≤ 62) × (v < 2 ^ w) × (8 * self.stored + self.have + w ≤ 8 * length out.old) }
+        ensures { IsPushed out.old self v w out.new result }
+    {
+        let have = self.have + w;
+        if have < 64 {
+            return Pen {
+                stored: self.stored,
+                have,
+                kept: (self.kept << w) + v,
+            };
+        }
+        let over = have - 64;
+        store(
+            out,
+            self.stored,
+            (self.kept << (64 - self.have)) + (v >> over),
+            8,
+        );
+        Pen {
+            stored: self.stored + 8,
+            have: over,
+            kept: v % limit_of(over),
+        }
     }
 }

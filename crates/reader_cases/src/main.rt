@@ -2,25 +2,16 @@
 
 #![tactic(auto)]
 
-use fields::Value;
 use fields::reader::take_two;
-use show::filled;
+use refusal::{Refusal, told};
 use std::io;
 use std::io::Print;
 
-fn show_field(to: &impl Print, width: u32, found: Value) -> io::Result<()> {
-    filled(
-        to,
-        b"; width #: refusal # place # value #",
-        [
-            width as u64,
-            found.refusal as u64,
-            found.place as u64,
-            found.value as u64,
-            0,
-            0,
-        ],
-    )
+// The number and the place of a refusal, or zeros, and the value, or 0.
+fn show_field(to: &impl Print, width: u32, found: Result<u32, Refusal>) -> io::Result<()> {
+    let (number, place) = told(&found);
+    let value = found.unwrap_or(0);
+    print!(to; "; width {width}: refusal {number} place {place} value {value}")
 }
 
 // Two fields that a reader at this bit place takes. Gives the reader's place after them.
@@ -32,13 +23,11 @@ fn show_two(
     second: u32,
 ) -> io::Result<usize> {
     let two = take_two(bytes, place, first, second);
-    let length = bytes.len();
-    print!(to; "reader at {place} of {length} bytes")?;
+    print!(to; "reader at {place} of {} bytes", bytes.len())?;
     show_field(to, first, two.first)?;
     show_field(to, second, two.second)?;
-    let next = two.next;
-    print!(to; "; reader at {next}\n")?;
-    Ok(next)
+    println!(to; "; reader at {}", two.next)?;
+    Ok(two.next)
 }
 
 fn main(rt: HostRuntime) -> io::Result<()> {

@@ -3,4 +3,4 @@ pub mod EveryLaws
 pub mod LineLaws
 pub mod GraphLaws
 pub mod RefusedLaws
-pub mod RecordCases
+pub mod RestLaws

@@ -16,6 +16,7 @@ use Rattle.laws.specs.UpTo.{all_up_to}
 use Rattle.laws.specs.UpToLaws.{all_at}
 use Rattle.laws.specs.Num.{num, num_bit}
 use Rattle.laws.specs.First.{first_up_to, first_none, none_first, first_more, first_stop}
+use Rattle.refusal.specs.declared.Refusal.TheVariants.{Entry}
 use Rattle.pairs.specs.Pairs.{pair_count}
 use Rattle.fields.specs.Bits.{bit_of}
 use Rattle.fields.proofs.BitLaws.{bit_small}
@@ -110,15 +111,20 @@ first_on s n c m x is_c before is_x d l =
       none = rw (add-one m) (first_more (is_refused (bit_of s) n) m before.none (rw (add-one m) at (ne_eqb (num (bit_of s) (entry_place n (m + 1)) 2) 3 (λ q. d (is_x ∙ q)))));
     }
 
-pub first_found : (s : List ℕ) (n c m x : ℕ) → c ≡ pair_count n → NoneUpTo (bit_of s) n m
-    → x ≡ num (bit_of s) (entry_place n (m + 1)) (2 * 1) → x ≡ 3 → m < c → m + 1 ≡ refused_in (bit_of s) n
+-- which is told
+pub entry_found : (s : List ℕ) (n c m x : ℕ) → c ≡ pair_count n → NoneUpTo (bit_of s) n m
+    → x ≡ num (bit_of s) (entry_place n (m + 1)) (2 * 1) → x ≡ 3 → m < c
+    → (eqb (refused_in (bit_of s) n) 0 ≡ false) × (Entry (m + 1) ≡ Entry (refused_in (bit_of s) n))
 unfolding refused_in is_refused numbered_in
-first_found s n c m x is_c before is_x q l =
-    add-one m
-    ∙ sym (first_stop (is_refused (bit_of s) n) (pair_count n) m before.none (rw (add-one m) at (eq-eqb (num (bit_of s) (entry_place n (m + 1)) 2) 3 (sym is_x ∙ q))) (omega arith))
+entry_found s n c m x is_c before is_x q l = (ne_eqb (refused_in (bit_of s) n) 0 (λ z. omega (arith, found, z)), ap (λ (k : ℕ). Entry k) found)
+  where
+    found : m + 1 ≡ refused_in (bit_of s) n
+    found =
+        add-one m
+        ∙ sym (first_stop (is_refused (bit_of s) n) (pair_count n) m before.none (rw (add-one m) at (eq-eqb (num (bit_of s) (entry_place n (m + 1)) 2) 3 (sym is_x ∙ q))) (omega arith))
 
-pub none_found : (f : ℕ → ℕ) (n c m : ℕ) → c ≡ pair_count n → NoneUpTo f n m → c ≤ m → 0 ≡ refused_in f n
+pub none_found : (f : ℕ → ℕ) (n c m : ℕ) → c ≡ pair_count n → NoneUpTo f n m → c ≤ m → eqb (refused_in f n) 0 ≡ true
 unfolding refused_in
 none_found f n c m is_c before h =
     let q : m ≡ pair_count n = omega (arith, before.within) in
-    sym (rw q at before.none)
+    eq-eqb (refused_in f n) 0 (rw q at before.none)

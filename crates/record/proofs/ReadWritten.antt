@@ -3,11 +3,9 @@ use Prim.Native.Nat.{ℕ, ◌+◌, ◌-◌, ◌*◌, ◌/◌, ◌%◌, ◌^◌, 
 use mathlib.Core.Path.{◌≡◌, refl, sym, ap, ◌∙◌}
 use mathlib.Core.List.{List, ◌++◌}
 use native.Mathlib.Omega.{arith}
-use borrow.Author.Tests.{eq-eqb, eqb-false}
-use lib.Dec.{eqb}
+use borrow.Author.Tests.{eqb-false}
 use lib.ListN.{length, get_or, take, drop, take-append-drop}
 use lib.Seq.{ext_get_or, get_or-take, length-take-le}
-use Rattle.laws.specs.TestLaws.{pick_true}
 use Rattle.laws.specs.Compared.{by_below}
 use Rattle.laws.specs.Bit.{bit}
 use Rattle.laws.specs.Num.{num, num_below, num_same, num_bit, num_own, zeros_of_num}
@@ -21,17 +19,17 @@ use Rattle.graph.specs.Counts.{entry_at}
 use Rattle.pairs.proofs.PairLaws.{number_low, number_high, number_pair_of, pair_of_between}
 use Rattle.rows.proofs.Mirrored.{mirrored_above}
 use Rattle.graph.proofs.Drawn.{drawn_entry, drawn_formed}
-use Rattle.record.specs.declared.Extent.{Extent}
+use Rattle.refusal.specs.Numbers.{refusal_told, value_told}
 use Rattle.record.specs.Layout.{start_place, entry_place, bit_count, byte_count}
 use Rattle.fields.specs.Bits.{bit_of}
 use Rattle.record.specs.Reading.{order_in, start_in, starts_in, numbered_in, entry_in, is_refused, refused_in, pad_in, graph_in, Bytes}
 use Rattle.record.specs.Writing.{entry_bit, record_bit, record_of}
-use Rattle.record.specs.Answers.{record_at, read_answer, rest_of}
+use Rattle.record.specs.Answers.{read_answer, taken_from, rest_of}
 use Rattle.fields.proofs.BitLaws.{bit_small}
 use Rattle.record.proofs.StartLaws.{start_first, start_later, start_at_most}
 use Rattle.record.proofs.WriteLaws.{bit_of_order, bit_of_start, bit_of_entry, bit_of_pad}
 use Rattle.record.proofs.SizeLaws.{bytes_low, bytes_high}
-use Rattle.record.proofs.Accepted.{Accepted, is_accepted, accepted_at}
+use Rattle.record.proofs.Accepted.{Accepted, accepted_at, read_accepted}
 use Rattle.record.proofs.RecordBits.{record_length, byte_held}
 
 -- bits that hold an accepted record
@@ -131,21 +129,20 @@ byte_bits s b k =
     let r : (8 * k + t) % 8 ≡ t = omega arith in
     rw (q, r))
 
-module _ (s : List ℕ) (fine : (read_answer s).refusal ≡ 0) where
+module _ (s : List ℕ) (fine : refusal_told (read_answer s) ≡ 0) where
   -- the record was accepted
   found : Accepted (bit_of s) (order_in (bit_of s)) (length s)
-  unfolding read_answer record_at
-  found = is_accepted (bit_of s) (order_in (bit_of s)) (length s) fine
+  found = read_accepted s fine
 
   -- its graph is the one in its bits
-  graph_is : (read_answer s).graph ≡ graph_in (bit_of s)
+  graph_is : value_told no_graph (read_answer s) ≡ graph_in (bit_of s)
   unfolding read_answer
-  graph_is = pick_true (eqb (record_at s).refusal 0) (graph_in (bit_of s)) no_graph (eq-eqb (record_at s).refusal 0 fine)
+  graph_is = rw (accepted_at s found)
 
   -- what follows it starts after its bytes
   rest_is : rest_of s ≡ drop (byte_count (order_in (bit_of s))) s
   unfolding rest_of
-  rest_is = ap (λ (x : Extent). drop x.bytes s) (accepted_at s found)
+  rest_is = rw (accepted_at s found)
 
   -- its bytes are the record of its graph
   record_is : Bytes s → record_of (graph_in (bit_of s)) ≡ take (byte_count (order_in (bit_of s))) s
@@ -161,13 +158,13 @@ module _ (s : List ℕ) (fine : (read_answer s).refusal ≡ 0) where
       ∙ byte_bits s b i ∙ sym (get_or-take (byte_count (order_in (bit_of s))) s i 0 (omega arith)))
 
   -- an accepted graph is well formed
-  pub read_formed : WellFormed (read_answer s).graph
+  pub read_formed : WellFormed (value_told no_graph (read_answer s))
   read_formed = rw graph_is (graph_formed (bit_of s) (bit_small s) (length s) found)
 
   -- an accepted record is what writing its graph gives, up to what follows
-  pub read_written : Bytes s → record_of (read_answer s).graph ++ rest_of s ≡ s
+  pub read_written : Bytes s → record_of (value_told no_graph (read_answer s)) ++ rest_of s ≡ s
   read_written b = rw (graph_is, rest_is, record_is b) (take-append-drop (byte_count (order_in (bit_of s))) s)
 
   -- an accepted record takes from 1 to 129 bytes
-  pub read_takes : (1 ≤ (record_at s).bytes) × ((record_at s).bytes ≤ 129)
+  pub read_takes : (1 ≤ taken_from s) × (taken_from s ≤ 129)
   read_takes = rw (accepted_at s found) (bytes_low (order_in (bit_of s)), bytes_high (order_in (bit_of s)) found.high)

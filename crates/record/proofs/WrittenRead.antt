@@ -10,7 +10,10 @@ use borrow.Author.Tests.{ne_eqb}
 use lib.Dec.{leb}
 use lib.ListN.{length, drop, length-append}
 use lib.Seq.{drop_at}
+use Rattle.std.specs.Prelude.{Ok, Err}
 use Rattle.laws.specs.Test.{unless}
+use Rattle.refusal.specs.declared.Refusal.TheVariants.{OutputRoom, Malformed}
+use Rattle.refusal.specs.Numbers.{refusal_told}
 use Rattle.laws.specs.Num.{num, num_same, num_of_zeros}
 use Rattle.laws.specs.First.{none_first}
 use Rattle.laws.specs.Bit.{bit}
@@ -29,9 +32,9 @@ use Rattle.record.specs.Layout.{start_place, entry_place, bit_count, byte_count}
 use Rattle.fields.specs.Bits.{bit_of}
 use Rattle.record.specs.Reading.{order_in, start_in, starts_in, numbered_in, entry_in, is_refused, refused_in, pad_in, graph_in}
 use Rattle.record.specs.Writing.{record_bit, record_of}
-use Rattle.record.specs.Answers.{extent, record_at, read_answer, rest_of, written, write_answer, buffer_after}
+use Rattle.record.specs.Answers.{record_at, read_answer, rest_of, write_answer, buffer_after}
 use Rattle.record.proofs.StartLaws.{start_first, start_later}
-use Rattle.record.proofs.Accepted.{Accepted, accepted_at, read_accepted}
+use Rattle.record.proofs.Accepted.{Accepted, accepted_at}
 use Rattle.record.proofs.RecordBits.{bits_in_bytes, order_held, start_held, entry_held, pad_held, record_length, bits_held}
 
 -- bits that are those of the record of a well-formed graph, as far as its bytes go
@@ -123,17 +126,15 @@ module _ (g : Graph) (w : WellFormed g) (after : List ℕ) where
       }
 
   -- the record that was written is accepted, and takes its own bytes
-  pub written_at : record_at (record_of g ++ after) ≡ extent 0 0 (byte_count g.order)
+  pub written_at : record_at (record_of g ++ after) ≡ Ok (byte_count g.order)
   written_at =
       accepted_at (record_of g ++ after) (rw order_found written_accepted)
-      ∙ ap (λ (n : ℕ). extent 0 0 (byte_count n)) order_found
+      ∙ ap (λ (n : ℕ). Ok (byte_count n)) order_found
 
   -- it reads as the graph again
-  pub written_read : read_answer (record_of g ++ after) ≡ record { refusal = 0; place = 0; graph = g }
-  written_read =
-      sym
-      (read_accepted (record_of g ++ after) (extent 0 0 (byte_count g.order)) g (sym written_at) refl
-      (sym (graph_read g w (bit_of (record_of g ++ after)) (bits_held g after))))
+  pub written_read : read_answer (record_of g ++ after) ≡ Ok g
+  unfolding read_answer
+  written_read = rw written_at (ap (λ (x : Graph). Ok x) (graph_read g w (bit_of (record_of g ++ after)) (bits_held g after)))
 
   -- and what stood after it is handed back
   pub written_rest : rest_of (record_of g ++ after) ≡ after
@@ -143,13 +144,13 @@ module _ (g : Graph) (w : WellFormed g) (after : List ℕ) where
 -- ---- the same of a buffer that was written to
 
 -- where both checks pass
-passes : (t u : Bool) (size : ℕ) → (unless t (written 8 0) (unless u (written 6 0) (written 0 size))).refusal ≡ 0 → (t ≡ true) × (u ≡ true)
+passes : (t u : Bool) (size : ℕ) → refusal_told (unless t (Err Malformed) (unless u (Err OutputRoom) (Ok size))) ≡ 0 → (t ≡ true) × (u ≡ true)
 unfolding unless
 passes true true size e = (refl, refl)
 passes true false size e = absurd (omega arith)
 passes false u size e = absurd (omega arith)
 
-module _ (g : Graph) (out : List ℕ) (fine : (write_answer g out).refusal ≡ 0) where
+module _ (g : Graph) (out : List ℕ) (fine : refusal_told (write_answer g out) ≡ 0) where
   -- the graph is well formed and the buffer has room
   tests : (well_formed g ≡ true) × (leb (byte_count g.order) (length out) ≡ true)
   unfolding write_answer
@@ -161,7 +162,7 @@ module _ (g : Graph) (out : List ℕ) (fine : (write_answer g out).refusal ≡ 0
   buffer_is = rw (tests.0, tests.1)
 
   -- reading the buffer gives the graph again
-  pub buffer_read : read_answer (buffer_after g out) ≡ record { refusal = 0; place = 0; graph = g }
+  pub buffer_read : read_answer (buffer_after g out) ≡ Ok g
   buffer_read = rw buffer_is (written_read g (formed g tests.0) (drop (byte_count g.order) out))
 
   -- and hands back what stood in it after the record

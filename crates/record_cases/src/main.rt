@@ -7,7 +7,8 @@
 
 use graph::Graph;
 use input::read_full;
-use show::{byte, filled, from_column, text};
+use refusal::{Refusal, told};
+use show::{byte, from_column, text};
 use std::io;
 use std::io::Print;
 use tables::{byte_at, digit_at, for_each_row, hex_at};
@@ -17,55 +18,43 @@ use text::parts::first;
 
 fn bytes(row: &[u8]) -> [u8; 130] {
     let mut whole = [0u8; 130];
-    whole[0] = byte_at(row, 6);
-    whole[1] = byte_at(row, 8);
-    whole[2] = byte_at(row, 10);
-    whole[3] = byte_at(row, 12);
-    whole[4] = byte_at(row, 14);
+    for k in 0..5u32 {
+        whole[k as usize] = byte_at(row, 6 + 2 * k);
+    }
     whole
 }
 
 // ---- the kinds of case
 
+// The number and the place of an answer's refusal, or zeros.
+fn show_told<T>(to: &impl Print, answer: &Result<T, Refusal>) -> io::Result<()> {
+    let (number, place) = told(answer);
+    print!(to; " refusal {number} place {place}")
+}
+
 // The first row stands for the graph's rows.
 fn show_rows(to: &impl Print, edges: u32, unknowns: u32, rest: usize) -> io::Result<()> {
-    print!(to; " edges {edges} unknowns {unknowns} rest {rest}\n")
+    println!(to; " edges {edges} unknowns {unknowns} rest {rest}")
 }
 
 fn read(to: &impl Print, bytes: &[u8]) -> io::Result<()> {
-    let r = reading::read(bytes);
-    let g = r.graph;
-    filled(
-        to,
-        b" refusal # place # order # starts #",
-        [
-            r.refusal as u64,
-            r.place as u64,
-            g.order as u64,
-            g.starts as u64,
-            0,
-            0,
-        ],
-    )?;
+    let answer = reading::read(bytes);
+    show_told(to, &answer)?;
+    let g = answer.unwrap_or(Graph::none());
+    print!(to; " order {} starts {}", g.order, g.starts)?;
     show_rows(to, g.edges[0], g.unknowns[0], reading::rest(bytes).len())
 }
 
 fn field(to: &impl Print, bytes: &[u8], place: usize, width: u32) -> io::Result<()> {
-    let r = fields::field(bytes, place, width);
-    filled(
-        to,
-        b" refusal # place # value #\n",
-        [r.refusal as u64, r.place as u64, r.value as u64, 0, 0, 0],
-    )
+    let answer = fields::field(bytes, place, width);
+    show_told(to, &answer)?;
+    println!(to; " value {}", answer.unwrap_or(0))
 }
 
 fn size(to: &impl Print, order: u32) -> io::Result<()> {
-    let r = record::size(order);
-    filled(
-        to,
-        b" refusal # place # bytes #\n",
-        [r.refusal as u64, r.place as u64, r.bytes as u64, 0, 0, 0],
-    )
+    let answer = record::size(order);
+    show_told(to, &answer)?;
+    println!(to; " bytes {}", answer.unwrap_or(0))
 }
 
 // What writing a graph into the first bytes of a buffer of four gives, and the four bytes afterwards.
@@ -74,16 +63,12 @@ fn write(to: &impl Print, graph: Graph, room: usize) -> io::Result<()> {
         return Ok(());
     }
     let mut out = [0xffu8; 4];
-    let r = writing::write(graph, &mut out[..room]);
-    filled(
-        to,
-        b" refusal # place # written # buffer",
-        [r.refusal as u64, r.place as u64, r.written as u64, 0, 0, 0],
-    )?;
-    byte(to, out[0])?;
-    byte(to, out[1])?;
-    byte(to, out[2])?;
-    byte(to, out[3])?;
+    let answer = writing::write(&graph, &mut out[..room]);
+    show_told(to, &answer)?;
+    print!(to; " written {} buffer", answer.unwrap_or(0))?;
+    for b in out {
+        byte(to, b)?;
+    }
     text(to, b"\n")
 }
 
@@ -92,12 +77,16 @@ fn show(to: &impl Print, kind: u8, bytes: &[u8], number: u64, width: u32) -> io:
         b'r' => read(to, bytes),
         b'f' => field(to, bytes, number as usize, width),
         b's' => size(to, (number % 256) as u32),
-        _ => write(to, reading::read(bytes).graph, number as usize),
+        _ => write(
+            to,
+            reading::read(bytes).unwrap_or(Graph::none()),
+            number as usize,
+        ),
     }
 }
 
 fn case(to: &impl Print, row: &[u8]) -> io::Result<()> {
-    if row.len() == 0 {
+    if row.is_empty() {
         return Ok(());
     }
     from_column(to, row, 36)?;

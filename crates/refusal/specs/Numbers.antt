@@ -1,5 +1,6 @@
--- The numbers of refusal, and the place that is given with each.
-use Rattle.std.specs.Prelude.{ℕ}
+-- The numbers of refusal, the place that is given with each, and what an answer that may be refused tells.
+use Rattle.std.specs.Prelude.{ℕ, Result, Ok, Err}
+use Rattle.std.specs.Result.{result_unwrap_or}
 use Rattle.refusal.specs.declared.Refusal.{Refusal}
 use Rattle.refusal.specs.declared.Refusal.TheVariants.{PastTheBytes, Order, Entry, Pad, LiteralRoom, OutputRoom, Vertex, Malformed, Value, LongBook, Arrangement, Width, Mode}
 
@@ -34,3 +35,19 @@ place_of LongBook = 0
 place_of Arrangement = 0
 place_of Width = 0
 place_of Mode = 0
+
+-- ---- an answer's number, place and value
+
+-- the number of its refusal, or 0
+abbrev pub refusal_told : {A : Type 0} → Result A Refusal → ℕ
+refusal_told (Ok value) = 0
+refusal_told (Err refusal) = number_of refusal
+
+-- the place of its refusal, or 0
+abbrev pub place_told : {A : Type 0} → Result A Refusal → ℕ
+place_told (Ok value) = 0
+place_told (Err refusal) = place_of refusal
+
+-- its value, or what stands for it where it is refused
+abbrev pub value_told : {A : Type 0} → A → Result A Refusal → A
+value_told none answer = result_unwrap_or answer none

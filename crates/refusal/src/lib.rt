@@ -3,7 +3,7 @@
 #![tactic(auto)]
 
 ghost use Rattle.std.specs.Prelude.{◌≡◌};
-ghost use Rattle.refusal.specs.Numbers.{number_of, place_of};
+ghost use Rattle.refusal.specs.Numbers.{number_of, place_of, refusal_told, place_told};
 
 // Why something is refused.
 #[derive(Clone, Copy, Debug, PartialEq, Eq)]
@@ -68,5 +68,15 @@ impl Refusal {
             Refusal::Entry { pair } => pair as usize,
             _ => 0,
         }
+    }
+}
+
+// The number and the place of an answer's refusal, or zeros.
+pub fn told<T>(answer: &Result<T, Refusal>) -> (u32, usize)
+    ensures { (result.0 ≡ refusal_told answer.now) × (result.1 ≡ place_told answer.now) }
+{
+    match answer {
+        Ok(_) => (0, 0),
+        Err(refusal) => (refusal.number(), refusal.place()),
     }
 }

@@ -19,16 +19,3 @@ pub fn byte(out: &impl Print, b: u8) -> io::Result<()> {
 pub fn from_column(out: &impl Print, row: &[u8], column: usize) -> io::Result<()> {
     text(out, row.get(column..).unwrap_or(&[]))
 }
-
-// A template with the values put where it has #, one after the other.
-pub fn filled(out: &impl Print, template: &[u8], values: [u64; 6]) -> io::Result<()> {
-    let mut rest = values.iter();
-    for &b in template {
-        if b != b'#' {
-            text(out, &[b])?;
-        } else if let Some(n) = rest.next() {
-            print!(out; "{n}")?;
-        }
-    }
-    Ok(())
-}

@@ -1,5 +1,5 @@
 -- The worked graphs that are proved, as one table under one claim.
-use Rattle.std.specs.Prelude.{ℕ, ◌-◌, ◌≡◌, refl, ℤ, pos, negsuc, length, get_or, drop, replicate}
+use Rattle.std.specs.Prelude.{ℕ, ◌-◌, ◌≡◌, refl, ℤ, pos, negsuc, length, get_or, drop, replicate, Result, Ok}
 use mathlib.Core.List.{List, [], ◌∷◌, ◌++◌, map, flat_map}
 use Rattle.laws.specs.Test.{both, either, pick, unless}
 use Rattle.laws.specs.UpTo.{all_up_to, sum_up_to, word_up_to, list_up_to}
@@ -26,7 +26,7 @@ use Rattle.graph.specs.declared.Graph.{Graph}
 use Rattle.graph.specs.Graph.{drawn}
 use Rattle.graph.specs.WellFormed.{well_formed}
 use Rattle.fields.specs.Bits.{bit_of}
-use Rattle.record.specs.declared.Record.{Record}
+use Rattle.refusal.specs.declared.Refusal.{Refusal}
 use Rattle.record.specs.Layout.{bit_count, byte_count}
 use Rattle.record.specs.Reading.{order_in, start_in, starts_in, numbered_in, entry_in, is_refused, refused_in, pad_in, graph_in}
 use Rattle.record.specs.Writing.{entry_bit, record_bit, record_byte, record_of}
@@ -100,7 +100,7 @@ record Outcome : Type 0 where
   answer : Judged
   buffer : List ℤ
   written : List ℕ
-  read : Record
+  read : Result Graph Refusal
 
 abbrev given : Case → Outcome
 given c =
@@ -118,7 +118,7 @@ expected c =
       answer = record { verdict = c.verdict; arrangement = c.arrangement ++ replicate (32 - length c.arrangement) 0; literals = length c.literals };
       buffer = c.literals ++ drop (length c.literals) (room c);
       written = c.bytes;
-      read = record { refusal = 0; place = 0; graph = graph_of c };
+      read = Ok (graph_of c);
     }
 
 -- the claim: each case gives what is expected of it

@@ -9,22 +9,20 @@
 use graph::Graph;
 use input::read_full;
 use judging::Judged;
-use show::{byte, filled, from_column, text};
+use refusal::{Refusal, told};
+use show::{byte, from_column, text};
 use std::io;
 use std::io::Print;
-use tables::{byte_at, digit_at, hex_at, for_each_row};
+use tables::{byte_at, digit_at, for_each_row, hex_at};
 use text::parts::first;
 
 // ---- what a row holds
 
 fn bytes(row: &[u8]) -> [u8; 130] {
     let mut whole = [0u8; 130];
-    whole[0] = byte_at(row, 5);
-    whole[1] = byte_at(row, 7);
-    whole[2] = byte_at(row, 9);
-    whole[3] = byte_at(row, 11);
-    whole[4] = byte_at(row, 13);
-    whole[5] = byte_at(row, 15);
+    for k in 0..6u32 {
+        whole[k as usize] = byte_at(row, 5 + 2 * k);
+    }
     whole
 }
 
@@ -57,14 +55,14 @@ fn show(to: &impl Print, order: u32, judged: Judged, literals: &[i32]) -> io::Re
 
 fn judge(to: &impl Print, graph: Graph, mode: u32, budget: u32) -> io::Result<()> {
     let mut literals = [0i32; 496];
-    let judged = search::judge(graph, mode, budget, &mut literals);
+    let judged = search::judge(&graph, mode, budget, &mut literals);
     show(to, graph.order, judged, &literals)
 }
 
 // Judging with room for 495 literals.
 fn judge_cramped(to: &impl Print, graph: Graph, mode: u32, budget: u32) -> io::Result<()> {
     let mut few = [0i32; 495];
-    let judged = search::judge(graph, mode, budget, &mut few);
+    let judged = search::judge(&graph, mode, budget, &mut few);
     show(to, graph.order, judged, &few)
 }
 
@@ -77,10 +75,10 @@ fn malformed(to: &impl Print, mut graph: Graph, mode: u32) -> io::Result<()> {
 // The record of one or two bytes that writing gives.
 fn write(to: &impl Print, graph: Graph) -> io::Result<()> {
     let mut out = [0u8; 129];
-    let done = writing::write(graph, &mut out);
+    let written = writing::write(&graph, &mut out).unwrap_or(0);
     text(to, b" record")?;
     byte(to, out[0])?;
-    if 1 < done.written {
+    if 1 < written {
         byte(to, out[1])?;
     }
     text(to, b"\n")
@@ -88,59 +86,49 @@ fn write(to: &impl Print, graph: Graph) -> io::Result<()> {
 
 // ---- refusals
 
-fn refusal(to: &impl Print, refusal: u32, place: usize) -> io::Result<()> {
-    filled(
-        to,
-        b" refusal #, place #\n",
-        [refusal as u64, place as u64, 0, 0, 0, 0],
-    )
+// The refusal of an answer, or zeros.
+fn show_told<T>(to: &impl Print, answer: &Result<T, Refusal>) -> io::Result<()> {
+    let (number, place) = told(answer);
+    println!(to; " refusal {number}, place {place}")
 }
 
 fn read(to: &impl Print, bytes: &[u8]) -> io::Result<()> {
-    let found = reading::read(bytes);
-    refusal(to, found.refusal, found.place)
+    show_told(to, &reading::read(bytes))
 }
 
 fn field(to: &impl Print, bytes: &[u8], place: u32, width: u32) -> io::Result<()> {
-    let found = fields::field(bytes, place as usize, width);
-    refusal(to, found.refusal, found.place)
+    show_told(to, &fields::field(bytes, place as usize, width))
 }
 
 // Writing into one byte.
 fn write_cramped(to: &impl Print, graph: Graph) -> io::Result<()> {
     let mut out = [0u8; 1];
-    let done = writing::write(graph, &mut out);
-    refusal(to, done.refusal, done.place)
+    show_told(to, &writing::write(&graph, &mut out))
 }
 
 fn entry(to: &impl Print, graph: Graph, i: u32, j: u32) -> io::Result<()> {
-    let found = graph.read(i, j);
-    refusal(to, found.refusal, found.place)
+    show_told(to, &graph.read(i, j))
 }
 
 fn degree(to: &impl Print, graph: Graph, v: u32) -> io::Result<()> {
-    let found = graph.count_at(v);
-    refusal(to, found.refusal, found.place)
+    show_told(to, &graph.count_at(v))
 }
 
 fn set(to: &impl Print, graph: Graph, i: u32, j: u32, value: u32) -> io::Result<()> {
-    let changed = graph.set(i, j, value);
-    refusal(to, changed.refusal, changed.place)
+    let answer = graph.set(i, j, value);
+    show_told(to, &answer.map_err(|unset| unset.refusal))
 }
 
 fn relabel(to: &impl Print, graph: Graph, p: [u8; 32]) -> io::Result<()> {
-    let changed = graph.relabel(p);
-    refusal(to, changed.refusal, changed.place)
+    show_told(to, &graph.relabel(p))
 }
 
 fn compose(to: &impl Print, order: u32, p: [u8; 32]) -> io::Result<()> {
-    let joined = composing::compose(order, p, p);
-    refusal(to, joined.refusal, joined.place)
+    show_told(to, &composing::compose(order, p, p))
 }
 
 fn invert(to: &impl Print, order: u32, p: [u8; 32]) -> io::Result<()> {
-    let back = composing::invert(order, p);
-    refusal(to, back.refusal, back.place)
+    show_told(to, &composing::invert(order, p))
 }
 
 // ---- the cases
@@ -167,7 +155,7 @@ fn case_of(to: &impl Print, row: &[u8], kind: u8, graph: Graph) -> io::Result<()
 }
 
 fn case(to: &impl Print, row: &[u8]) -> io::Result<()> {
-    if row.len() == 0 {
+    if row.is_empty() {
         return Ok(());
     }
     from_column(to, row, 32)?;
@@ -180,7 +168,7 @@ fn case(to: &impl Print, row: &[u8]) -> io::Result<()> {
         b'f' => field(to, given, digit_at(row, 27), digit_at(row, 28)),
         b'c' => compose(to, digit_at(row, 27), arrangement(row)),
         b'i' => invert(to, digit_at(row, 27), arrangement(row)),
-        _ => case_of(to, row, kind, reading::read(given).graph),
+        _ => case_of(to, row, kind, reading::read(given).unwrap_or(Graph::none())),
     }
 }
 

@@ -1,4 +1,3 @@
 pub mod Buffer
 pub mod Reached
 pub mod PutLaws
-pub mod WriteCases

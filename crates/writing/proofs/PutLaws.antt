@@ -24,11 +24,11 @@ use Rattle.record.specs.Writing.{record_bit, record_byte, record_of}
 use Rattle.record.proofs.RecordBits.{order_held, start_held, entry_held, pad_held, bits_in_bytes}
 use Rattle.record.proofs.WriteLaws.{record_bit_small}
 use Rattle.pen.specs.declared.Pen.{Pen}
-use Rattle.pen.specs.Pushed.{stored, IsPushed}
+use Rattle.pen.specs.Stored.{stored}
+use Rattle.pen.specs.Pushed.{IsPushed}
 use Rattle.writing.specs.Along.{along}
 use Rattle.writing.specs.Reached.{Reached}
 use Rattle.writing.proofs.Buffer.{filled_starts}
-use Rattle.pen.proofs.CodePen.{pen}
 use Rattle.writing.proofs.Reached.{kept_small, stored_filled, pushes, from_here, joined}
 
 -- ---- places
@@ -206,29 +206,29 @@ unfolding bit_count
 starts_room n d room = omega (arith, bits_in_bytes n, room)
 
 module _ (g : Graph) (d : List ℕ) (low : 1 ≤ g.order) (high : g.order ≤ 32) (room : byte_count g.order ≤ length d) where
-  module _ (x : ℕ) (is_x : x ≡ g.order) where
-    ordered : Reached g d d (pen 0 6 x) 6
+  module _ (p : Pen) (stored_none : p.stored ≡ 0) (have_six : p.have ≡ 6) (kept_order : p.kept ≡ g.order) where
+    ordered : Reached g d d p 6
     unfolding order_in
     ordered =
-        record { at = refl; few = omega arith; bits = is_x ∙ sym (order_held g (lt_of_le_of_lt high (lit< tt))); bytes = filled_starts (record_byte g) d; long = refl; room = room }
+        record { at = omega arith; few = omega arith; bits = rw (stored_none, have_six) (kept_order ∙ sym (order_held g (lt_of_le_of_lt high (lit< tt)))); bytes = rw stored_none (filled_starts (record_byte g) d); long = refl; room = room }
 
     started : (o : List ℕ) (r : Pen) (v : ℕ) → v ≡ num (start_at g.starts) 2 (g.order - 1)
-        → IsPushed d (pen 0 6 x) v (g.order - 1) o r → Reached g d o r (cell g.order 1 2)
+        → IsPushed d p v (g.order - 1) o r → Reached g d o r (cell g.order 1 2)
     unfolding bit_count cell
     started o r v is_v u =
         let e : 6 + (g.order - 1) ≡ entry_place g.order (number g.order 1 2) = omega (arith, number_first g.order) in
         subst (Reached g d o r) e
-        (pushes g d d o (pen 0 6 x) r v (g.order - 1) 6 ordered u
+        (pushes g d d o p r v (g.order - 1) 6 ordered u
         (is_v ∙ num_same (start_at g.starts) (record_bit g) 2 6 (g.order - 1)
         (λ t l. let k : 6 + (2 + t - 2) ≡ 6 + t = omega arith in sym (start_held g (2 + t) (omega arith) (omega arith)) ∙ ap (record_bit g) k))
         (omega arith) (omega (arith, all_room g d room)))
 
     pub rows_begin : (o : List ℕ) (r : Pen) (v : ℕ) → v ≡ num (start_at g.starts) 2 (g.order - 1)
-        → IsPushed d (pen 0 6 x) v (g.order - 1) o r → Reached g o o r (cell g.order 1 2)
+        → IsPushed d p v (g.order - 1) o r → Reached g o o r (cell g.order 1 2)
     rows_begin o r v is_v u = from_here g d o r (cell g.order 1 2) (started o r v is_v u)
 
     pub all_stored : (o₁ o₂ o₃ : List ℕ) (p₁ p₂ : Pen) (v : ℕ) → v ≡ num (start_at g.starts) 2 (g.order - 1)
-        → IsPushed d (pen 0 6 x) v (g.order - 1) o₁ p₁
+        → IsPushed d p v (g.order - 1) o₁ p₁
         → Reached g o₁ o₂ p₂ (bit_count g.order) → p₁.stored ≤ p₂.stored
         → o₃ ≡ stored o₂ p₂.stored (p₂.kept * 2 ^ (63 - p₂.have) % 2 ^ 64 * 2) ((p₂.have + 7) / 8)
         → o₃ ≡ record_of g ++ drop (byte_count g.order) d

@@ -21,7 +21,8 @@ use Rattle.writing.proofs.Buffer.{filled_turns}
 use Rattle.pen.proofs.CodePen.{stored_long}
 use Rattle.pen.specs.declared.Pen.{Pen}
 use Rattle.writing.specs.Reached.{Reached}
-use Rattle.pen.specs.Pushed.{stored, IsPushed, full, among}
+use Rattle.pen.specs.Stored.{stored}
+use Rattle.pen.specs.Pushed.{IsPushed, full, among}
 
 -- so many bits are below a power
 pub kept_small : (g : Graph) (d o : List ℕ) (p : Pen) (place : ℕ) → Reached g d o p place → p.kept < 2 ^ p.have

@@ -5,57 +5,31 @@
 mod put;
 
 ghost use Rattle.std.specs.Prelude.{◌≡◌};
-ghost use Rattle.graph.specs.Graph.{graph_of};
+ghost use Rattle.graph.specs.Lent.{lent};
 ghost use Rattle.record.specs.Answers.{write_answer, buffer_after};
 
-use graph::{Graph, is_formed};
+use graph::{Graph, LentGraph};
 use put::put;
-use record::Written;
 use record::layout::byte_count;
+use refusal::Refusal;
 
-// Writes the record of the graph of these rows as `write` does. They are only read, and no graph is made of them.
-pub fn write_rows<'a, 'b>(
-    order: u32,
-    edges: &'a [u32; 32],
-    unknowns: &'a [u32; 32],
-    starts: u32,
-    out: &'b mut [u8],
-) -> Written
-    ensures { (result ≡ write_answer (graph_of order edges.now unknowns.now starts) out.old) × (out.new ≡ buffer_after (graph_of order edges.now unknowns.now starts) out.old) }
+// Writes the record of a graph whose rows are lent as `write` does. They are only read, and no graph is made of them.
+pub fn write_rows(graph: LentGraph, out: &mut [u8]) -> Result<usize, Refusal>
+    ensures { (result ≡ write_answer (lent graph.entry) out.old) × (out.new ≡ buffer_after (lent graph.entry) out.old) }
 {
-    if is_formed(order, edges, unknowns, starts) {
-        let size = byte_count(order);
-        if out.len() < size {
-            return Written {
-                refusal: 6,
-                place: 0,
-                written: 0,
-            };
-        }
-        put(order, edges, unknowns, starts, out);
-        return Written {
-            refusal: 0,
-            place: 0,
-            written: size,
-        };
+    let formed = graph.formed()?;
+    let size = byte_count(graph.order);
+    if out.len() < size {
+        return Err(Refusal::OutputRoom);
     }
-    Written {
-        refusal: 8,
-        place: 0,
-        written: 0,
-    }
+    put(formed, out);
+    Ok(size)
 }
 
 // Writes the record of a graph at the start of out, and nothing after it.
-// Refuses 8 for a graph that is not well formed, then 6 for a buffer below the record, each with place 0 and out as it was.
-pub fn write(graph: Graph, out: &mut [u8]) -> Written
-    ensures { (result ≡ write_answer graph out.old) × (out.new ≡ buffer_after graph out.old) }
+// Refuses 8 for a graph that is not well formed, then 6 for a buffer below the record, each with out as it was.
+pub fn write(graph: &Graph, out: &mut [u8]) -> Result<usize, Refusal>
+    ensures { (result ≡ write_answer graph.now out.old) × (out.new ≡ buffer_after graph.now out.old) }
 {
-    write_rows(
-        graph.order,
-        &graph.edges,
-        &graph.unknowns,
-        graph.starts,
-        out,
-    )
+    write_rows(graph.lend(), out)
 }

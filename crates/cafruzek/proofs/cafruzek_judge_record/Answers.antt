@@ -1,20 +1,27 @@
 use borrow.Author.Rules.{rules}
+use Rattle.laws.specs.Test.{pick}
+use Rattle.refusal.proofs.NumberLaws.{number_range}
+use Rattle.judging.specs.Answer.{told, without}
+use Rattle.packing.specs.Packing.{refusal, code_told, low_told, packed}
+use Rattle.packing.specs.Telling.{arranged_by, arranged_after}
 use Rattle.packing.proofs.JudgeCases.{is_judgement}
-use Rattle.cafruzek.proofs.RecordCases.{read_number, read_checked, unread_packed, unread_buffer, unread_arranged, read_packed, read_buffer, read_arranged}
+use Rattle.cafruzek.specs.Answers.{judge_read, judge_read_buffer}
+use Rattle.cafruzek.proofs.RecordCases.{read_checked}
 use Rattle.cafruzek.proofs.cafruzek_judge_record.Goals as goal
 
-pub refused-requires : goal.refused-requires
-refused-requires c = search (read_number, rules)
-
-pub returns-then-found-ne0 : goal.returns-then-found-ne0
-returns-then-found-ne0 c = search (unread_packed, unread_buffer, unread_arranged, rules)
-
 pub judge_formed-answer-requires : goal.judge_formed-answer-requires
-judge_formed-answer-requires c =
-    read_checked _ _ c.read-found.ensures c.if-found-ne0.false
+judge_formed-answer-requires c = search (read_checked, rules)
 
 pub tell-requires : goal.tell-requires
 tell-requires c = search (is_judgement, rules)
 
-pub returns : goal.returns
-returns c = search (read_packed, read_buffer, read_arranged, rules)
+pub returns-in-Ok : goal.returns-in-Ok
+unfolding judge_read judge_read_buffer
+returns-in-Ok c = search rules
+
+pub refused-requires : goal.refused-requires
+refused-requires c = search (number_range, rules)
+
+pub returns-in-Err : goal.returns-in-Err
+unfolding judge_read judge_read_buffer without packed told code_told low_told refusal arranged_after arranged_by pick
+returns-in-Err c = search rules

@@ -1,6 +1,6 @@
 use borrow.Author.Rules.{rules}
-use Rattle.cafruzek.proofs.RecordCases.{extent_number, extent_bytes}
+use Rattle.cafruzek.proofs.RecordCases.{extent_few}
 use Rattle.cafruzek.proofs.cafruzek_record_size.Goals as goal
 
 pub counted-requires : goal.counted-requires
-counted-requires c = search (extent_number, extent_bytes, rules)
+counted-requires c = search (extent_few, rules)

@@ -1,15 +1,16 @@
 use borrow.Author.Rules.{rules}
-use Rattle.fields.proofs.FieldLaws.{field_narrow, field_wide, field_past, field_read}
+use Rattle.laws.specs.Test.{both, unless}
+use Rattle.fields.specs.Field.{field_answer}
 use Rattle.fields.proofs.field.Goals as goal
 
-pub returns-then-width-lt1 : goal.returns-then-width-lt1
-returns-then-width-lt1 c = search (field_narrow, rules)
-
-pub returns-then-width-gt6 : goal.returns-then-width-gt6
-returns-then-width-gt6 c = search (field_wide, rules)
+pub returns-then-not-contains : goal.returns-then-not-contains
+unfolding field_answer both unless
+returns-then-not-contains c = search rules
 
 pub returns-then-last-bytes : goal.returns-then-last-bytes
-returns-then-last-bytes c = search (field_read, rules)
+unfolding field_answer both unless
+returns-then-last-bytes c = search rules
 
 pub returns-else-last-bytes : goal.returns-else-last-bytes
-returns-else-last-bytes c = search (field_past, rules)
+unfolding field_answer both unless
+returns-else-last-bytes c = search rules

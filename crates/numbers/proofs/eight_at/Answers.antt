@@ -1,6 +1,5 @@
 use Rattle.numbers.proofs.WordLaws.{eight_is}
-use borrow.Author.Rules.{rules}
 use Rattle.numbers.proofs.eight_at.Goals as goal
 
 pub returns : goal.returns
-returns c = search (eight_is, rules)
+returns c = eight_is c.args.bytes.now c.args.k c.type_inv.bytes _ c.from_be_bytes.ensures

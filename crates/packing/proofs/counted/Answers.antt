@@ -1,9 +1,15 @@
 use borrow.Author.Rules.{rules}
-use Rattle.packing.proofs.PackingCases.{counted_bytes, counted_refusal}
+use Rattle.refusal.proofs.NumberLaws.{number_range}
+use Rattle.packing.specs.Packing.{counted}
 use Rattle.packing.proofs.counted.Goals as goal
 
-pub returns-then-number-eq0 : goal.returns-then-number-eq0
-returns-then-number-eq0 c = search (counted_bytes, rules)
+pub returns-in-Ok : goal.returns-in-Ok
+unfolding counted
+returns-in-Ok c = search rules
 
-pub returns : goal.returns
-returns c = search (counted_refusal, rules)
+pub refused-requires : goal.refused-requires
+refused-requires c = search (number_range, rules)
+
+pub returns-in-Err : goal.returns-in-Err
+unfolding counted
+returns-in-Err c = search rules

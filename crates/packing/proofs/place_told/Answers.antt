@@ -1,9 +1,8 @@
 use borrow.Author.Rules.{rules}
-use Rattle.packing.proofs.PackingCases.{place_kept, place_capped}
+use Rattle.laws.specs.Test.{pick}
+use Rattle.packing.specs.Packing.{place_told}
 use Rattle.packing.proofs.place_told.Goals as goal
 
-pub returns-then-place-le4294967295 : goal.returns-then-place-le4294967295
-returns-then-place-le4294967295 c = search (place_kept, rules)
-
 pub returns : goal.returns
-returns c = search (place_capped, rules)
+unfolding place_told pick
+returns c = search rules

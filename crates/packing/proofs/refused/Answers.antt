@@ -1,6 +1,7 @@
 use borrow.Author.Rules.{rules}
-use Rattle.packing.proofs.PackingCases.{refusal_made}
+use Rattle.packing.specs.Packing.{refusal}
 use Rattle.packing.proofs.refused.Goals as goal
 
 pub returns : goal.returns
-returns c = search (refusal_made, rules)
+unfolding refusal
+returns c = search rules

@@ -1,11 +1,7 @@
-use Prim.Native.Nat.{◌-◌, ◌≤◌}
 use mathlib.Core.Path.{◌≡◌}
-use Rattle.pen.specs.Pushed.{stored}
+use Rattle.pen.specs.Stored.{stored}
 use Rattle.pen.proofs.store.Given as goal
 
 -- After t turns t bytes are stored.
 abbrev pub invariant-loop-t : goal.invariant-loop-t
-invariant-loop-t l = (l.t ≤ l.count) × (l.out ≡ stored l.initial.out l.at l.word l.t)
-
-abbrev pub decreases-loop-t : goal.decreases-loop-t
-decreases-loop-t l = l.count - l.t
+invariant-loop-t l = l.out ≡ stored l.initial.out l.at l.word l.t

@@ -4,5 +4,5 @@ use Rattle.reading.proofs.graph_of.Goals as goal
 
 pub returns : goal.returns
 returns c =
-    graph_lines _ _ _ _ _ _ _ (search rules) c.order_of-order.ensures.0 c.starts_of-starts.ensures
+    graph_lines _ _ _ _ _ _ _ (search rules) c.order_of-order.ensures.0 c.starts-starts.ensures
     c.fill_lines.ensures.0 c.fill_lines.ensures.1 c.mirror.ensures.0 c.mirror.ensures.1

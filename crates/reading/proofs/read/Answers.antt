@@ -1,12 +1,15 @@
 use borrow.Author.Rules.{rules}
-use Rattle.record.proofs.Accepted.{found_low, found_high, read_accepted, read_refused}
+use Rattle.record.proofs.Accepted.{found_low, found_high}
+use Rattle.record.specs.Answers.{read_answer}
 use Rattle.reading.proofs.read.Goals as goal
 
-pub graph_of-graph-requires : goal.graph_of-graph-requires
-graph_of-graph-requires c = search (found_low, found_high, rules)
+pub returns-in_err-record_at : goal.returns-in_err-record_at
+unfolding read_answer
+returns-in_err-record_at c = search rules
 
-pub returns-then-found-eq0 : goal.returns-then-found-eq0
-returns-then-found-eq0 c = search (read_accepted, rules)
+pub graph_of-requires : goal.graph_of-requires
+graph_of-requires c = search (found_low, found_high, rules)
 
 pub returns : goal.returns
-returns c = search (read_refused, rules)
+unfolding read_answer
+returns c = search rules

@@ -1,27 +1,33 @@
 use borrow.Author.Rules.{rules}
-use Rattle.reading.proofs.RecordCases.{none_given, order_refused, none_taken, order_low, order_high, runs_past, entry_refused, pad_refused, pad_passes}
+use Rattle.laws.specs.Test.{unless}
+use Rattle.pairs.proofs.VertexLaws.{order_in_range}
+use Rattle.record.specs.Answers.{size_answer, record_in, record_at}
 use Rattle.reading.proofs.record_at.Goals as goal
 
-pub returns-then-given-lt1 : goal.returns-then-given-lt1
-returns-then-given-lt1 c = search (none_given, rules)
+pub returns-in_err-check_given : goal.returns-in_err-check_given
+unfolding record_at record_in size_answer unless
+returns-in_err-check_given c = search (order_in_range, rules)
 
-pub returns-then-whole-ne0 : goal.returns-then-whole-ne0
-returns-then-whole-ne0 c = search (order_refused, none_taken, rules)
+pub returns-in_err-whole : goal.returns-in_err-whole
+unfolding record_at record_in size_answer unless
+returns-in_err-whole c = search (order_in_range, rules)
 
-pub returns-then-given-whole : goal.returns-then-given-whole
-returns-then-given-whole c = search (runs_past, rules)
+pub returns-in_err-check_given-2 : goal.returns-in_err-check_given-2
+unfolding record_at record_in size_answer unless
+returns-in_err-check_given-2 c = search (order_in_range, rules)
 
-pub first_refused-refused-requires : goal.first_refused-refused-requires
-first_refused-refused-requires c = search (order_low, order_high, rules)
+pub invariant_of-held : goal.invariant_of-held
+unfolding record_at record_in size_answer unless
+invariant_of-held c = search (order_in_range, rules)
 
-pub returns-then-refused-ne0 : goal.returns-then-refused-ne0
-returns-then-refused-ne0 c = search (entry_refused, rules)
+pub returns-in_err-check_entries : goal.returns-in_err-check_entries
+unfolding record_at record_in size_answer unless
+returns-in_err-check_entries c = search (order_in_range, rules)
 
-pub pad_of-requires : goal.pad_of-requires
-pad_of-requires c = search (order_low, order_high, rules)
-
-pub returns-then-pad_of-ne0 : goal.returns-then-pad_of-ne0
-returns-then-pad_of-ne0 c = search (pad_refused, rules)
+pub returns-in_err-check_pad : goal.returns-in_err-check_pad
+unfolding record_at record_in size_answer unless
+returns-in_err-check_pad c = search (order_in_range, rules)
 
 pub returns : goal.returns
-returns c = search (pad_passes, rules)
+unfolding record_at record_in size_answer unless
+returns c = search (order_in_range, rules)

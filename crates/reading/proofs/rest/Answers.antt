@@ -1,5 +1,5 @@
 use borrow.Author.Rules.{rules}
-use Rattle.reading.proofs.RecordCases.{rest_is, rest_from}
+use Rattle.reading.proofs.RestLaws.{rest_is, rest_from}
 use Rattle.reading.proofs.rest.Goals as goal
 
 pub returns : goal.returns

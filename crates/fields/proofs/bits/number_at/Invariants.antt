@@ -1,4 +1,4 @@
-use Prim.Native.Nat.{◌≤◌, ◌<◌, ◌-◌}
+use Prim.Native.Nat.{◌<◌}
 use mathlib.Core.Path.{◌≡◌}
 use Rattle.laws.specs.Num.{num}
 use Rattle.fields.specs.Bits.{bit_of}
@@ -6,7 +6,4 @@ use Rattle.fields.proofs.bits.number_at.Given as goal
 
 -- After t turns the number is that of the first t bits.
 abbrev pub invariant-loop-t : goal.invariant-loop-t
-invariant-loop-t l = (l.t ≤ l.width) × (l.made ≡ num (bit_of l.bytes) l.place l.t) × (l.made < 128)
-
-abbrev pub decreases-loop-t : goal.decreases-loop-t
-decreases-loop-t l = l.width - l.t
+invariant-loop-t l = (l.made ≡ num (bit_of l.bytes) l.place l.t) × (l.made < 128)

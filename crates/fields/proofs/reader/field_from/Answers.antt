@@ -1,12 +1,16 @@
 use borrow.Author.Rules.{rules}
-use Rattle.fields.proofs.TakenLaws.{taken_refused, taken_past, taken_given}
+use Rattle.laws.specs.Test.{unless}
+use Rattle.fields.specs.Reader.{taken_at}
 use Rattle.fields.proofs.reader.field_from.Goals as goal
 
-pub returns-then-found-ne0 : goal.returns-then-found-ne0
-returns-then-found-ne0 c = search (taken_refused, rules)
+pub returns-then-is_err : goal.returns-then-is_err
+unfolding taken_at unless
+returns-then-is_err c = search rules
 
-pub returns-then-place-width : goal.returns-then-place-width
-returns-then-place-width c = search (taken_past, rules)
+pub returns-in-Some : goal.returns-in-Some
+unfolding taken_at unless
+returns-in-Some c = search rules
 
-pub returns : goal.returns
-returns c = search (taken_given, rules)
+pub returns-in-None : goal.returns-in-None
+unfolding taken_at unless
+returns-in-None c = search rules

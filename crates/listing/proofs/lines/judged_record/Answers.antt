@@ -1,9 +1,11 @@
-use mathlib.Core.Path.{refl}
-use Rattle.listing.proofs.Turning.{answers_refused, answers_judged}
+use borrow.Author.Rules.{rules}
+use Rattle.listing.specs.Listing.{judged_record, literals_of}
 use Rattle.listing.proofs.lines.judged_record.Goals as goal
 
-pub returns-then-found-ne0 : goal.returns-then-found-ne0
-returns-then-found-ne0 c = answers_refused _ _ _ _ c.if-found-ne0.true c.refused.ensures refl
+pub returns-in-Ok : goal.returns-in-Ok
+unfolding judged_record literals_of
+returns-in-Ok c = search rules
 
-pub returns : goal.returns
-returns c = answers_judged _ _ _ _ c.if-found-ne0.false c.judge.ensures
+pub returns-in-Err : goal.returns-in-Err
+unfolding judged_record literals_of
+returns-in-Err c = search rules

@@ -1,11 +1,8 @@
-use Prim.Native.Nat.{◌+◌, ◌-◌, ◌≤◌}
-use Rattle.graph.specs.Graph.{graph_of}
+use Prim.Native.Nat.{◌+◌, ◌≤◌}
+use Rattle.graph.specs.Lent.{lent}
 use Rattle.record.specs.Layout.{cell}
 use Rattle.writing.specs.Reached.{Reached}
 use Rattle.writing.proofs.put.put_rows.Given as goal
 
 abbrev pub invariant-loop-i : goal.invariant-loop-i
-invariant-loop-i l = (1 ≤ l.i) × (l.i ≤ l.order) × Reached (graph_of l.order l.edges l.unknowns l.starts) l.initial.out l.out l.at (cell l.order l.i (l.i + 1)) × (l.initial.at.stored ≤ l.at.stored)
-
-abbrev pub decreases-loop-i : goal.decreases-loop-i
-decreases-loop-i l = l.order - l.i
+invariant-loop-i l = Reached (lent l.graph) l.initial.out l.out l.at (cell l.order l.i (l.i + 1)) × (l.initial.at.stored ≤ l.at.stored)

@@ -1,6 +1,6 @@
 use Rattle.reading.proofs.LineLaws.{lines_start, lines_room, unknowns_turn, edges_turn, lines_done}
 use borrow.Author.Rules.{rules}
-use Rattle.reading.proofs.lines.fill_lines.Goals as goal
+use Rattle.reading.proofs.held.Held.fill_lines.Goals as goal
 
 pub loop-i-init : goal.loop-i-init
 loop-i-init c = search (lines_start, rules)

@@ -1,6 +1,6 @@
 use borrow.Author.Rules.{rules}
 use Rattle.reading.proofs.PartLaws.{some_bytes, pad_room, pad_within, pad_is}
-use Rattle.reading.proofs.parts.pad_of.Goals as goal
+use Rattle.reading.proofs.held.Held.pad.Goals as goal
 
 pub overflow_sub-left : goal.overflow_sub-left
 overflow_sub-left c = search (pad_room, rules)

@@ -1,7 +1,7 @@
 use borrow.Author.Rules.{rules}
 use Rattle.laws.specs.Loops.{word_starts, word_grows, word_fits}
 use Rattle.reading.proofs.PartLaws.{start_more, starts_done}
-use Rattle.reading.proofs.parts.starts_of.Goals as goal
+use Rattle.reading.proofs.held.Held.starts.Goals as goal
 
 pub loop-v-init : goal.loop-v-init
 loop-v-init c = search (word_starts, rules)

@@ -1,6 +1,6 @@
 use borrow.Author.Rules.{rules}
 use Rattle.reading.proofs.LineLaws.{entries_are}
-use Rattle.reading.proofs.lines.entries_of.Goals as goal
+use Rattle.reading.proofs.held.Held.entries_of.Goals as goal
 
 pub returns : goal.returns
 returns c = search (entries_are, rules)

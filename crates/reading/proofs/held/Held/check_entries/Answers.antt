@@ -1,9 +1,9 @@
-use Rattle.reading.proofs.RefusedLaws.{first_on, first_found, none_found}
+use Rattle.reading.proofs.RefusedLaws.{first_on, entry_found, none_found}
 use borrow.Author.Rules.{rules}
-use Rattle.reading.proofs.refused.first_refused.Goals as goal
+use Rattle.reading.proofs.held.Held.check_entries.Goals as goal
 
 pub returns-then-entries_after-eq3 : goal.returns-then-entries_after-eq3
-returns-then-entries_after-eq3 c = search (first_found, rules)
+returns-then-entries_after-eq3 c = search (entry_found, rules)
 
 pub loop-m-preserved : goal.loop-m-preserved
 loop-m-preserved c = search (first_on, rules)

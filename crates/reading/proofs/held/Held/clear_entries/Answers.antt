@@ -1,6 +1,6 @@
 use Rattle.reading.proofs.RefusedLaws.{clear_starts, clear_more}
 use borrow.Author.Rules.{rules}
-use Rattle.reading.proofs.refused.clear_entries.Goals as goal
+use Rattle.reading.proofs.held.Held.clear_entries.Goals as goal
 
 pub loop-clear-init : goal.loop-clear-init
 loop-clear-init c = search (clear_starts, rules)
