@@ -9,8 +9,8 @@ use Rattle.cafruzek.specs.Answers.{judge_read, judge_read_buffer}
 use Rattle.cafruzek.proofs.RecordCases.{read_checked}
 use Rattle.cafruzek.proofs.cafruzek_judge_record.Goals as goal
 
-pub judge_formed-answer-requires : goal.judge_formed-answer-requires
-judge_formed-answer-requires c = search (read_checked, rules)
+pub invariant_of-formed : goal.invariant_of-formed
+invariant_of-formed c = search (read_checked, rules)
 
 pub tell-requires : goal.tell-requires
 tell-requires c = search (is_judgement, rules)
