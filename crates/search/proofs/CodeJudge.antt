@@ -39,10 +39,9 @@ use Rattle.composing.specs.Composed.{inverse}
 use Rattle.turns.specs.Turns.{turn_at, first_pair, Places}
 use Rattle.graph.specs.Graph.{graph_of}
 use Rattle.judging.proofs.Arrangements.{padded_permitted}
-use Rattle.std.specs.Prelude.{Result, Err}
 use Rattle.refusal.specs.declared.Refusal.{Refusal}
-use Rattle.refusal.specs.declared.Refusal.TheVariants.{LiteralRoom, Malformed, Mode}
-use Rattle.search.specs.Told.{told}
+use Rattle.refusal.specs.declared.Refusal.TheVariants.{LiteralRoom, Malformed}
+use Rattle.refusal.specs.Numbers.{number_of, place_of}
 use Rattle.search.specs.Won.{IsWon}
 use Rattle.dropped.proofs.Winning.{inverse_places, row_low}
 use Rattle.clause.proofs.CodeCertificate.{wins_there}
@@ -172,25 +171,26 @@ module _ (mode : ℕ) (g : Graph) (budget : ℕ) (buffer : List ℤ) where
   unfolding judge_buffer
   by_answer r after q h = (q, h ∙ ap (λ (x : Judged). at_start x.verdict (clause_of mode g x.arrangement) buffer) q)
 
-  pub answers_unknown : (r : Result Judged Refusal) → r ≡ Err Mode → is_mode mode ≡ false → (told r ≡ judge_answer mode g budget (length buffer)) × (buffer ≡ judge_buffer mode g budget buffer)
+  pub answers_unknown : (r : Judged) → r ≡ without (Refused 16 0) → is_mode mode ≡ false → (r ≡ judge_answer mode g budget (length buffer)) × (buffer ≡ judge_buffer mode g budget buffer)
   unfolding judge_answer
-  answers_unknown r i e = by_answer _ buffer (refused false (is_mode mode) _ _ _ (sym e) refl (ap told i)) (refused_buffer mode g _ 16 0 buffer (ap told i))
+  answers_unknown r i e = by_answer r buffer (refused false (is_mode mode) _ _ _ (sym e) refl i) (refused_buffer mode g _ 16 0 buffer i)
 
   module _ (m : is_mode mode ≡ true) where
-    pub answers_malformed : (r : Result Judged Refusal) → r ≡ Err Malformed → well_formed g ≡ false → (told r ≡ judge_answer mode g budget (length buffer)) × (buffer ≡ judge_buffer mode g budget buffer)
+    pub answers_malformed : (why : Refusal) (r : Judged) → why ≡ Malformed → r ≡ without (Refused (number_of why) (place_of why)) → well_formed g ≡ false → (r ≡ judge_answer mode g budget (length buffer)) × (buffer ≡ judge_buffer mode g budget buffer)
     unfolding judge_answer
-    answers_malformed r i e =
-        by_answer _ buffer (passed true (is_mode mode) _ _ _ (sym m) refl (refused false (well_formed g) _ _ _ (sym e) refl (ap told i)))
-        (refused_buffer mode g _ 8 0 buffer (ap told i))
+    answers_malformed why r is i e =
+        let told : r ≡ without (Refused 8 0) = rw is at i in
+        by_answer r buffer (passed true (is_mode mode) _ _ _ (sym m) refl (refused false (well_formed g) _ _ _ (sym e) refl told)) (refused_buffer mode g _ 8 0 buffer told)
 
     module _ (w : well_formed g ≡ true) where
-      pub answers_cramped : (r : Result Judged Refusal) → r ≡ Err LiteralRoom → length buffer < pair_count g.order → (told r ≡ judge_answer mode g budget (length buffer)) × (buffer ≡ judge_buffer mode g budget buffer)
+      pub answers_cramped : (why : Refusal) (r : Judged) → why ≡ LiteralRoom → r ≡ without (Refused (number_of why) (place_of why)) → length buffer < pair_count g.order → (r ≡ judge_answer mode g budget (length buffer)) × (buffer ≡ judge_buffer mode g budget buffer)
       unfolding judge_answer
-      answers_cramped r i k =
-          by_answer _ buffer
+      answers_cramped why r is i k =
+          let told : r ≡ without (Refused 5 0) = rw is at i in
+          by_answer r buffer
           (passed true (is_mode mode) _ _ _ (sym m) refl
-          (passed true (well_formed g) _ _ _ (sym w) refl (refused false (leb (pair_count g.order) (length buffer)) _ _ _ (sym (lt-leb (pair_count g.order) (length buffer) k)) refl (ap told i))))
-          (refused_buffer mode g _ 5 0 buffer (ap told i))
+          (passed true (well_formed g) _ _ _ (sym w) refl (refused false (leb (pair_count g.order) (length buffer)) _ _ _ (sym (lt-leb (pair_count g.order) (length buffer) k)) refl told)))
+          (refused_buffer mode g _ 5 0 buffer told)
 
       pub answers_judged : (r : Judged) (after : List ℤ) → pair_count g.order ≤ length buffer → r ≡ answer_for mode g budget (found mode g budget) → after ≡ at_start r.verdict (clause_of mode g r.arrangement) buffer
           → (r ≡ judge_answer mode g budget (length buffer)) × (after ≡ judge_buffer mode g budget buffer)

@@ -1,2 +1,1 @@
 pub mod Won
-pub mod Told

@@ -12,7 +12,6 @@ ghost use Rattle.refusal.specs.Numbers.{number_of, place_of};
 ghost use Rattle.graph.specs.Lent.{lent};
 ghost use Rattle.arrangements.specs.Arrangement.{is_permitted};
 ghost use Rattle.judging.specs.Judging.{walk_all, judged, found, clause_of, certificate_of};
-ghost use Rattle.search.specs.Told.{told};
 ghost use Rattle.search.specs.Won.{IsWon};
 ghost use Rattle.exploring.specs.Masks.{block_mask};
 ghost use Rattle.judging.specs.declared.Verdict.TheVariants.{Refused};
@@ -152,66 +151,36 @@ fn judge_with_room(mode: u32, formed: FormedGraph, budget: u32, literals: &mut [
     }
 }
 
-// The answer for a known mode, or the refusal of the buffer.
-fn try_room(
-    mode: u32,
-    formed: FormedGraph,
-    budget: u32,
-    literals: &mut [i32],
-) -> Result<Judged, Refusal>
+// The answer for a known mode.
+fn judge_known(mode: u32, formed: FormedGraph, budget: u32, literals: &mut [i32]) -> Judged
     requires { is_mode mode ≡ true }
-    ensures { (told result ≡ judge_answer mode (lent formed.entry.graph) budget (length literals.old)) × (literals.new ≡ judge_buffer mode (lent formed.entry.graph) budget literals.old) }
+    ensures { (result ≡ judge_answer mode (lent formed.entry.graph) budget (length literals.old)) × (literals.new ≡ judge_buffer mode (lent formed.entry.graph) budget literals.old) }
 {
-    check_room(formed.graph.order, literals.len())?;
-    Ok(judge_with_room(mode, formed, budget, literals))
-}
-
-// The answer for a well-formed graph, or the refusal.
-fn try_formed(
-    mode: u32,
-    formed: FormedGraph,
-    budget: u32,
-    literals: &mut [i32],
-) -> Result<Judged, Refusal>
-    ensures { (told result ≡ judge_answer mode (lent formed.entry.graph) budget (length literals.old)) × (literals.new ≡ judge_buffer mode (lent formed.entry.graph) budget literals.old) }
-{
-    if is_mode(mode) {
-        return try_room(mode, formed, budget, literals);
+    match check_room(formed.graph.order, literals.len()) {
+        Ok(()) => judge_with_room(mode, formed, budget, literals),
+        Err(why) => refused(why),
     }
-    Err(Refusal::Mode)
-}
-
-// The answer for any graph whose rows are lent, or the refusal.
-fn try_rows(
-    mode: u32,
-    graph: LentGraph,
-    budget: u32,
-    literals: &mut [i32],
-) -> Result<Judged, Refusal>
-    ensures { (told result ≡ judge_answer mode (lent graph.entry) budget (length literals.old)) × (literals.new ≡ judge_buffer mode (lent graph.entry) budget literals.old) }
-{
-    if !is_mode(mode) {
-        return Err(Refusal::Mode);
-    }
-    try_room(mode, graph.formed()?, budget, literals)
 }
 
 // Judges a graph as `judge` does, where it is known to be well formed.
 pub fn judge_formed(formed: FormedGraph, mode: u32, budget: u32, literals: &mut [i32]) -> Judged
     ensures { (result ≡ judge_answer mode (lent formed.entry.graph) budget (length literals.old)) × (literals.new ≡ judge_buffer mode (lent formed.entry.graph) budget literals.old) }
 {
-    match try_formed(mode, formed, budget, literals) {
-        Ok(judged) => judged,
-        Err(why) => refused(why),
+    if is_mode(mode) {
+        return judge_known(mode, formed, budget, literals);
     }
+    refused(Refusal::Mode)
 }
 
 // Judges a graph whose rows are lent as `judge` does. They are only read, and no graph is made of them.
 pub fn judge_rows(graph: LentGraph, mode: u32, budget: u32, literals: &mut [i32]) -> Judged
     ensures { (result ≡ judge_answer mode (lent graph.entry) budget (length literals.old)) × (literals.new ≡ judge_buffer mode (lent graph.entry) budget literals.old) }
 {
-    match try_rows(mode, graph, budget, literals) {
-        Ok(judged) => judged,
+    if !is_mode(mode) {
+        return refused(Refusal::Mode);
+    }
+    match graph.formed() {
+        Ok(formed) => judge_known(mode, formed, budget, literals),
         Err(why) => refused(why),
     }
 }
