@@ -74,22 +74,22 @@ fn check_room(n: u32, room: usize) -> Result<(), Refusal>
 fn tell_smaller(
     mode: u32,
     formed: FormedGraph,
-    arrangement: [u8; 32],
+    arrangement: &[u8; 32],
     steps: u32,
     literals: &mut [i32],
 ) -> Judged
-    requires { (pair_count formed.graph.order ≤ length literals.old) × (is_permitted formed.graph.order formed.graph.starts arrangement ≡ true) × IsWon (walk_all mode (lent formed.graph) arrangement) }
-    ensures { (result ≡ smaller mode (lent formed.entry.graph) arrangement steps) × (literals.new ≡ clause_of mode (lent formed.entry.graph) arrangement ++ drop (length (clause_of mode (lent formed.entry.graph) arrangement)) literals.old) }
+    requires { (pair_count formed.graph.order ≤ length literals.old) × (is_permitted formed.graph.order formed.graph.starts arrangement.now ≡ true) × IsWon (walk_all mode (lent formed.graph) arrangement.now) }
+    ensures { (result ≡ smaller mode (lent formed.entry.graph) arrangement.now steps) × (literals.new ≡ clause_of mode (lent formed.entry.graph) arrangement.now ++ drop (length (clause_of mode (lent formed.entry.graph) arrangement.now)) literals.old) }
 {
     let LentGraph {
         order,
         rows,
         starts,
     } = formed.graph;
-    let places = inverse_of(order, &arrangement);
+    let places = inverse_of(order, arrangement);
     let path = Path {
         rows,
-        vertices: &arrangement,
+        vertices: arrangement,
         places: &places,
     };
     let Some(at) = winning(mode, path, order) else {
@@ -105,32 +105,26 @@ fn tell_smaller(
     let count = write_clause(win, starts, literals);
     Judged {
         verdict: Verdict::Smaller { row, column, steps },
-        arrangement,
+        arrangement: *arrangement,
         literals: count,
     }
 }
 
 // The answer where the path's first places are the first won beginning: its certificate, and the clause written.
+#[inline(never)]
 fn certify(
     mode: u32,
     formed: FormedGraph,
     blocks: &[u32; 32],
-    start: [u8; 32],
+    path: &mut [u8; 32],
     depth: u32,
     steps: u32,
     literals: &mut [i32],
 ) -> Judged
-    requires { (pair_count formed.graph.order ≤ length literals.old) × (blocks.now ≡ placed (block_mask (block_of formed.graph.starts) formed.graph.order) formed.graph.order) × (depth ≤ formed.graph.order) × Beginning formed.graph.order (block_of formed.graph.starts) (take depth start) × (judged mode (lent formed.graph) (take depth start) ≡ won) × (drop formed.graph.order start ≡ replicate (32 - formed.graph.order) 0) }
-    ensures { (result ≡ smaller mode (lent formed.entry.graph) (certificate_of (lent formed.entry.graph) (take depth start)) steps) × (literals.new ≡ clause_of mode (lent formed.entry.graph) (certificate_of (lent formed.entry.graph) (take depth start)) ++ drop (length (clause_of mode (lent formed.entry.graph) (certificate_of (lent formed.entry.graph) (take depth start)))) literals.old) }
+    requires { (pair_count formed.graph.order ≤ length literals.old) × (blocks.now ≡ placed (block_mask (block_of formed.graph.starts) formed.graph.order) formed.graph.order) × (depth ≤ formed.graph.order) × Beginning formed.graph.order (block_of formed.graph.starts) (take depth path.old) × (judged mode (lent formed.graph) (take depth path.old) ≡ won) × (drop formed.graph.order path.old ≡ replicate (32 - formed.graph.order) 0) }
+    ensures { (result ≡ smaller mode (lent formed.entry.graph) (certificate_of (lent formed.entry.graph) (take depth path.old)) steps) × (literals.new ≡ clause_of mode (lent formed.entry.graph) (certificate_of (lent formed.entry.graph) (take depth path.old)) ++ drop (length (clause_of mode (lent formed.entry.graph) (certificate_of (lent formed.entry.graph) (take depth path.old)))) literals.old) }
 {
-    let mut path = start;
-    complete(
-        formed.graph.order,
-        formed.graph.starts,
-        blocks,
-        depth,
-        &mut path,
-    );
+    complete(formed.graph.order, formed.graph.starts, blocks, depth, path);
     tell_smaller(mode, formed, path, steps, literals)
 }
 
@@ -144,7 +138,7 @@ fn judge_with_room(mode: u32, formed: FormedGraph, budget: u32, literals: &mut [
     let end = explore(mode, formed, &blocks, budget, &mut path);
     match end {
         Explored::Won { steps, depth } => {
-            certify(mode, formed, &blocks, path, depth, steps, literals)
+            certify(mode, formed, &blocks, &mut path, depth, steps, literals)
         }
         Explored::Nothing { steps } => bare(Verdict::Nothing { steps }),
         Explored::Cut => bare(Verdict::Cut { steps: budget }),
