@@ -48,15 +48,14 @@ pub extern "C" fn cafruzek_judge_record<'a, 'b, 'c>(
 ) -> u64
     ensures { (result ≡ packed (judge_record mode bytes.now budget (length literals.old))) × (literals.new ≡ judge_record_buffer mode bytes.now budget literals.old) × (arrangement.new ≡ arranged_after (judge_record mode bytes.now budget (length literals.old)) arrangement.old) }
 {
-    match reading::read(bytes) {
-        Ok(graph) => {
-            let formed = FormedGraph {
-                graph: graph.lend(),
-            };
-            tell(judge_formed(formed, mode, budget, literals), arrangement)
-        }
-        Err(refusal) => refused(refusal.number(), refusal.place()),
-    }
+    let graph = match reading::read(bytes) {
+        Ok(graph) => graph,
+        Err(refusal) => return refused(refusal.number(), refusal.place()),
+    };
+    let formed = FormedGraph {
+        graph: graph.lend(),
+    };
+    tell(judge_formed(formed, mode, budget, literals), arrangement)
 }
 
 // Judges the graph value of these rows. It writes as cafruzek_judge_record does.

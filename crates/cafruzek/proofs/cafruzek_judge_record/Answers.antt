@@ -15,9 +15,9 @@ invariant_of-formed c = search (read_checked, rules)
 pub tell-requires : goal.tell-requires
 tell-requires c = search (is_judgement, rules)
 
-pub returns-in-Ok : goal.returns-in-Ok
+pub returns : goal.returns
 unfolding judge_read judge_read_buffer
-returns-in-Ok c = search rules
+returns c = search rules
 
 pub refused-requires : goal.refused-requires
 refused-requires c = search (number_range, rules)
