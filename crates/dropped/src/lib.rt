@@ -46,7 +46,7 @@ fn image_may(win: Win, starts: u32) -> bool
         pair: false,
         image: true,
     };
-    wins_after(win, without)
+    wins_after(&win, without)
 }
 
 // And what stands at the winning pair itself?
@@ -61,7 +61,7 @@ fn pair_may(win: Win, starts: u32) -> bool
         pair: true,
         image: false,
     };
-    wins_after(win, without)
+    wins_after(&win, without)
 }
 
 // What goes at the winning pair: of it and its image the one with the higher row number is tried first, and the other only

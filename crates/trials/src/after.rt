@@ -46,11 +46,11 @@ fn count_after(
 }
 
 // What a pair does under the path. One that is its own image is passed at once: most are.
-fn turn_after(win: Win, without: Without, here: Spot) -> Turn
-    requires { (win.order ≤ 32) × Places win.order win.path.vertices.now win.path.places.now × (here.column ≤ win.order) }
-    ensures { turn_code result ≡ turn_after (before_in win.entry.mode) win.entry.path.rows.edges.now win.entry.path.rows.unknowns.now win.entry.path.vertices.now win.entry.path.places.now (pair win.entry.at.row win.entry.at.column) without.pair without.image (pair here.row here.column) }
+fn turn_after(win: &Win, without: Without, here: Spot) -> Turn
+    requires { (win.now.order ≤ 32) × Places win.now.order win.now.path.vertices.now win.now.path.places.now × (here.column ≤ win.now.order) }
+    ensures { turn_code result ≡ turn_after (before_in win.now.mode) win.now.path.rows.edges.now win.now.path.rows.unknowns.now win.now.path.vertices.now win.now.path.places.now (pair win.now.at.row win.now.at.column) without.pair without.image (pair here.row here.column) }
 {
-    let Win { mode, path, at, .. } = win;
+    let Win { mode, path, at, .. } = *win;
     let Path {
         rows,
         vertices,
@@ -73,9 +73,9 @@ fn turn_after(win: Win, without: Without, here: Spot) -> Turn
 }
 
 // Is the walk won after the winning pair?
-pub fn wins_after(win: Win, without: Without) -> bool
-    requires { (win.order ≤ 32) × Places win.order win.path.vertices.now win.path.places.now × (win.at.column ≤ win.order) }
-    ensures { result ≡ eqb (walk_code (turn_after (before_in win.entry.mode) win.entry.path.rows.edges.now win.entry.path.rows.unknowns.now win.entry.path.vertices.now win.entry.path.places.now (pair win.entry.at.row win.entry.at.column) without.pair without.image) (pairs_after win.entry.mode win.entry.order (pair win.entry.at.row win.entry.at.column))) 2 }
+pub fn wins_after(win: &Win, without: Without) -> bool
+    requires { (win.now.order ≤ 32) × Places win.now.order win.now.path.vertices.now win.now.path.places.now × (win.now.at.column ≤ win.now.order) }
+    ensures { result ≡ eqb (walk_code (turn_after (before_in win.now.mode) win.now.path.rows.edges.now win.now.path.rows.unknowns.now win.now.path.vertices.now win.now.path.places.now (pair win.now.at.row win.now.at.column) without.pair without.image) (pairs_after win.now.mode win.now.order (pair win.now.at.row win.now.at.column))) 2 }
 {
     let mut next = next_pair(win.mode, win.order, win.at);
     while let Some(here) = next {
