@@ -30,8 +30,8 @@ pub struct Graph {
 // A graph whose rows are lent.
 #[derive(Clone, Copy)]
 pub struct LentGraph<'a> {
-    pub order: u32,
     pub rows: Rows<'a>,
+    pub order: u32,
     pub starts: u32,
 }
 
