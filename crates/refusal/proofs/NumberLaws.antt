@@ -4,7 +4,7 @@ use Rattle.std.proofs.lemmas.Bool.{false≢true}
 use Rattle.std.proofs.Common.{refl, arith}
 use Rattle.refusal.specs.declared.Refusal.{Refusal}
 use Rattle.refusal.specs.declared.Refusal.TheVariants.{PastTheBytes, Order, Entry, Pad, LiteralRoom, OutputRoom, Vertex, Malformed, Value, LongBook, Arrangement, Width, Mode}
-use Rattle.refusal.specs.Numbers.{number_of, refusal_told}
+use Rattle.refusal.specs.Numbers.{number_of, refusal_told, value_told}
 
 -- a refusal has a number from 1 to 16
 pub number_range : (e : Refusal) → (1 ≤ number_of e) × (number_of e ≤ 16)
@@ -36,3 +36,8 @@ told_refused (Err refusal) h = refl
 pub given_told : {A : Type 0} (r : Result A Refusal) → is_ok r ≡ true → refusal_told r ≡ 0
 given_told (Ok value) h = refl
 given_told (Err refusal) h = absurd (false≢true h)
+
+-- a refused answer has for its value what stands for it: the graph of order 0, or zeros
+pub refused_value : {A : Type 0} (none : A) (r : Result A Refusal) → (refusal_told r ≡ 0 → ⊥) → value_told none r ≡ none
+refused_value none (Ok value) h = absurd (h refl)
+refused_value none (Err refusal) h = refl

@@ -1,4 +1,3 @@
-use Prim.Native.Nat.{◌-◌, ◌≤◌}
 use mathlib.Core.Path.{◌≡◌}
 use Rattle.words.specs.Placed.{placed}
 use Rattle.words.specs.Stage.{in_both_halves}

@@ -1,4 +1,4 @@
-use Prim.Native.Nat.{◌-◌, ◌*◌, ◌≤◌}
+use Prim.Native.Nat.{◌*◌}
 use mathlib.Core.Path.{◌≡◌}
 use Rattle.words.specs.Placed.{placed}
 use Rattle.words.specs.Stage.{staged}
