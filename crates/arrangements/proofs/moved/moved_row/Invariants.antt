@@ -1,4 +1,4 @@
-use Prim.Native.Nat.{◌-◌, ◌≤◌, ◌<◌, ◌^◌}
+use Prim.Native.Nat.{◌<◌, ◌^◌}
 use mathlib.Core.Path.{◌≡◌}
 use Rattle.laws.specs.UpTo.{word_up_to}
 use Rattle.words.specs.Placed.{row as row_of}

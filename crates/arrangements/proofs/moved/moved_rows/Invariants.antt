@@ -1,4 +1,3 @@
-use Prim.Native.Nat.{◌-◌, ◌≤◌}
 use mathlib.Core.Path.{◌≡◌}
 use Rattle.words.specs.Placed.{placed}
 use Rattle.arrangements.specs.Arrangement.{moved_row}

@@ -1,4 +1,4 @@
-use Prim.Native.Nat.{◌-◌, ◌≤◌}
+use Prim.Native.Nat.{◌≤◌}
 use mathlib.Core.Path.{◌≡◌}
 use Rattle.laws.specs.UpTo.{sum_up_to}
 use Rattle.rows.specs.Rows.{start_at}
