@@ -20,12 +20,7 @@ use search::{judge_formed, judge_rows};
 use words::turned::Rows;
 
 // The graph of these rows.
-fn lent<'a>(
-    order: u32,
-    edges: &'a [u32; 32],
-    unknowns: &'a [u32; 32],
-    starts: u32,
-) -> LentGraph<'a>
+fn lent<'a>(order: u32, edges: &'a [u32; 32], unknowns: &'a [u32; 32], starts: u32) -> LentGraph<'a>
     ensures { lent result ≡ graph_of order edges.now unknowns.now starts }
 {
     LentGraph {

@@ -103,15 +103,7 @@ pub fn explore(
                 Turn::Lost => {}
                 Turn::Open => {
                     used = with;
-                    renew_stops(
-                        mode,
-                        rows,
-                        n,
-                        depth,
-                        used,
-                        vertex_at(path, 1),
-                        &mut stops,
-                    );
+                    renew_stops(mode, rows, n, depth, used, vertex_at(path, 1), &mut stops);
                     untried[depth] = left;
                     depth += 1;
                     left = without(blocks[depth], used);

@@ -9,8 +9,8 @@ ghost use Rattle.kinds.specs.Kinds.{kind_at, place_before, FirstIn, MaskedBy, Fi
 
 use crate::kind::Win;
 use arrangements::places::vertex_of;
-use turns::spot::Spot;
 use turns::path::weight_of;
+use turns::spot::Spot;
 use turns::walked::{Path, row_of};
 use words::without;
 
@@ -154,6 +154,9 @@ pub fn columns_of(win: Win, masks: Masks, i: u32) -> u32
     let first = firsts(win.mode, i, row, column);
     let source = sources(win.mode, row, column, u, masks);
     let ones = row_of(rows.edges, i);
-    let columns = without((first & ones) | without(source, ones), row_of(rows.unknowns, i));
+    let columns = without(
+        (first & ones) | without(source, ones),
+        row_of(rows.unknowns, i),
+    );
     (columns & (0xFFFF_FFFF >> (32 - n))) >> i
 }

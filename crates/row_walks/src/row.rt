@@ -135,7 +135,11 @@ pub fn row_walk(path: Path, n: u32, i: u32, later: u32) -> Turn
     }
     let s = vertex_at(path.places, i);
     let here = counted(ones, doubts, sources(i, u, s, later));
-    let there = counted(row_of(rows.edges, u), row_of(rows.unknowns, u), unmet(i, u, s));
+    let there = counted(
+        row_of(rows.edges, u),
+        row_of(rows.unknowns, u),
+        unmet(i, u, s),
+    );
     words_walk(here, there, vertices, n, i)
 }
 

@@ -94,14 +94,7 @@ fn first_stops(rows: Rows, n: u32, used: u32, u: u32, stops: &mut [u32; 32])
 }
 
 // Makes the stops that are needed after a vertex is chosen at a depth.
-pub fn set_stops(
-    rows: Rows,
-    n: u32,
-    depth: usize,
-    used: u32,
-    u: u32,
-    stops: &mut [u32; 32],
-)
+pub fn set_stops(rows: Rows, n: u32, depth: usize, used: u32, u: u32, stops: &mut [u32; 32])
     requires { (n ≤ 32) × (depth + 1 < n) × (1 ≤ u) × (u ≤ 32) × (length stops.old ≡ 32) × (get_or stops.old 0 0 ≡ 0) }
     ensures { Stopped rows.entry.edges.now rows.entry.unknowns.now n depth used u stops.old stops.new × (length stops.new ≡ 32) }
 {
