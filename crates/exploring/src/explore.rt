@@ -50,7 +50,6 @@ fn renew_stops(
 
 // Tries the beginnings in dictionary order, one a turn, up to the first won one or the budget. Afterwards the path's first
 // places are that beginning, and the places after n are as they were.
-#[inline(never)]
 pub fn explore(
     mode: u32,
     formed: FormedGraph,

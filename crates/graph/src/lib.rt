@@ -50,7 +50,7 @@ pub struct Unset {
 }
 
 // How many pairs are edges, non-edges and unknown.
-#[derive(Clone, Copy)]
+#[derive(Clone, Copy, Default)]
 pub struct Totals {
     pub edges: u32,
     pub non_edges: u32,
@@ -146,6 +146,15 @@ impl Graph {
             unknowns: moved_rows(&self.unknowns, &p, order),
             starts,
         })
+    }
+}
+
+// What stands for a refused graph.
+impl Default for Graph {
+    ghost is_default = { λ g. g ≡ no_graph };
+
+    fn default() -> Graph {
+        Graph::none()
     }
 }
 

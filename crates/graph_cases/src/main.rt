@@ -66,7 +66,7 @@ fn show_graph(to: &impl Print, graph: Graph) -> io::Result<()> {
 // Places 1 to 4.
 fn show_arrangement(to: &impl Print, answer: Result<[u8; 32], Refusal>) -> io::Result<()> {
     show_told(to, &answer)?;
-    let [a, b, c, d, ..] = answer.unwrap_or([0; 32]);
+    let [a, b, c, d, ..] = answer.unwrap_or_default();
     println!(to; ", vertices {a} {b} {c} {d}")
 }
 
@@ -83,7 +83,7 @@ fn formed(to: &impl Print, row: &[u8]) -> io::Result<()> {
 fn read(to: &impl Print, row: &[u8]) -> io::Result<()> {
     let answer = graph(row).read(digit_at(row, 11), digit_at(row, 12));
     show_told(to, &answer)?;
-    println!(to; ", value {}", answer.unwrap_or(0))
+    println!(to; ", value {}", answer.unwrap_or_default())
 }
 
 fn set(to: &impl Print, row: &[u8]) -> io::Result<()> {
@@ -102,24 +102,20 @@ fn count(to: &impl Print, row: &[u8]) -> io::Result<()> {
         edges,
         non_edges,
         unknowns,
-    } = answer.unwrap_or(Totals {
-        edges: 0,
-        non_edges: 0,
-        unknowns: 0,
-    });
+    } = answer.unwrap_or_default();
     println!(to; ", edges {edges}, non-edges {non_edges}, unknowns {unknowns}")
 }
 
 fn count_at(to: &impl Print, row: &[u8]) -> io::Result<()> {
     let answer = graph(row).count_at(digit_at(row, 11));
     show_told(to, &answer)?;
-    println!(to; ", edges {}", answer.unwrap_or(0))
+    println!(to; ", edges {}", answer.unwrap_or_default())
 }
 
 fn relabel(to: &impl Print, row: &[u8]) -> io::Result<()> {
     let answer = graph(row).relabel(arrangement(row, 11));
     show_told(to, &answer)?;
-    show_graph(to, answer.unwrap_or(Graph::none()))
+    show_graph(to, answer.unwrap_or_default())
 }
 
 fn compose(to: &impl Print, row: &[u8]) -> io::Result<()> {

@@ -98,6 +98,7 @@ fn is_met_as_image(mode: u32, i: u32, j: u32, u: u32, v: u32, at: Spot, without:
 }
 
 // What is written for the pair (i, j).
+#[inline(always)]
 pub fn kind_at(win: Win, without: Without, i: u32, j: u32) -> Kind
     requires { (win.order ≤ 32) × (is_reordering win.order win.path.places.now ≡ true) × (1 ≤ i) × (i < j) × (j ≤ win.order) }
     ensures { kind_code result ≡ kind_at (before_in win.entry.mode) win.entry.path.rows.edges.now win.entry.path.rows.unknowns.now win.entry.path.places.now (pair win.entry.at.row win.entry.at.column) without.pair without.image (pair i j) }

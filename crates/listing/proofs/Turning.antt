@@ -1,15 +1,18 @@
 -- The code of one line.
 use Prim.Native.Nat.{ℕ, ◌≤◌, min}
 use native.Mathlib.Omega.{arith}
-use mathlib.Core.Path.{◌≡◌, ◌∙◌}
+use mathlib.Core.Path.{◌≡◌, ◌∙◌, ap}
 use mathlib.Core.List.{List, ◌++◌}
 use lib.IntN.{ℤ, pos}
 use lib.ListN.{length, drop, length-replicate}
 use lib.Seq.{take_all}
 use Rattle.std.specs.Prelude.{Result}
+use Rattle.std.specs.Result.{ResultUnwrapsOrElse}
 use Rattle.refusal.specs.declared.Refusal.{Refusal}
 use Rattle.refusal.specs.Numbers.{value_told}
+use Rattle.refusal.proofs.NumberLaws.{default_told}
 use Rattle.graph.specs.declared.Graph.{Graph}
+use Rattle.graph.specs.Answers.{no_graph}
 use Rattle.record.specs.Answers.{record_at, read_answer}
 use Rattle.judging.specs.declared.Judged.{Judged}
 use Rattle.text.specs.Page.{poured}
@@ -25,6 +28,10 @@ use Rattle.listing.proofs.Book.{order_small}
 pub poured_whole : (text old : List ℕ) → length text ≤ length old → poured text old ≡ text ++ drop (length text) old
 unfolding poured
 poured_whole text old h = rw (take_all (length old) text h)
+
+-- the order of what is given for an answer is the answer's
+pub order_given : (found : Result Graph Refusal) (g : Graph) → ResultUnwrapsOrElse found (λ h. h ≡ no_graph) g → g.order ≡ order_of found
+order_given found g is_given = ap (λ (h : Graph). h.order) (default_told no_graph found g is_given)
 
 -- the line that the code puts is the record's
 lines_are : (number : ℕ) (s : List ℕ) (found : Result Graph Refusal) (judged : Judged) (literals : List ℤ) → found ≡ read_answer s → (judged ≡ judged_record found (length scratch)) × (literals ≡ literals_of found scratch) → judged_line number (order_of found) judged literals ≡ record_line number s

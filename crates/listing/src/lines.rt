@@ -54,7 +54,7 @@ fn put_record(bytes: &[u8], number: u32, out: &mut [u8]) -> Turn
     ensures { Put number bytes.now out.old out.new result }
 {
     let found = reading::read(bytes);
-    let graph = found.unwrap_or(Graph::none());
+    let graph = found.unwrap_or_default();
     let mut literals = [0i32; 496];
     let judged = judged_record(found, &mut literals);
     let written = line::line(out, number, graph.order, judged, &literals);

@@ -93,9 +93,14 @@ counted_given count h =
     let f : Fitting count 0 0 0 0 = omega arith in
     (low_is count 0 0 0 0 f, code_is count 0 0 0 0 f)
 
--- the place and 128 more than the number of a refusal
+-- of any refusal its place, and 128 more than its number
+pub refusal_apart : (number place : ℕ) → number < 128 → place ≤ 4294967295 → (low_in (refusal number place) ≡ place) × (code_in (refusal number place) ≡ 128 + number)
+unfolding refusal
+refusal_apart number place h small =
+    let f : Fitting (place_told place) 0 0 0 (128 + number) = omega (arith, place_fits_lem place) in
+    (low_is (place_told place) 0 0 0 (128 + number) f ∙ place_itself place small, code_is (place_told place) 0 0 0 (128 + number) f)
+
+-- so of one that is told in place of a number of bytes
 pub counted_refused : (e : Refusal) → place_of e ≤ 496 → (low_in (counted (Err e)) ≡ place_of e) × (code_in (counted (Err e)) ≡ 128 + number_of e)
-unfolding counted refusal
-counted_refused e small =
-    let f : Fitting (place_told (place_of e)) 0 0 0 (128 + number_of e) = omega (arith, place_fits_lem (place_of e), number_range e) in
-    (low_is (place_told (place_of e)) 0 0 0 (128 + number_of e) f ∙ place_itself (place_of e) (omega arith), code_is (place_told (place_of e)) 0 0 0 (128 + number_of e) f)
+unfolding counted
+counted_refused e small = refusal_apart (number_of e) (place_of e) (omega (arith, number_range e)) (omega arith)

@@ -10,7 +10,7 @@ use std::io::Print;
 // The number and the place of a refusal, or zeros, and the value, or 0.
 fn show_field(to: &impl Print, width: u32, found: Result<u32, Refusal>) -> io::Result<()> {
     let (number, place) = told(&found);
-    let value = found.unwrap_or(0);
+    let value = found.unwrap_or_default();
     print!(to; "; width {width}: refusal {number} place {place} value {value}")
 }
 

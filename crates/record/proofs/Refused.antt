@@ -1,6 +1,6 @@
 -- What a refusal says, and what it leaves.
 use Prim.Native.Nat.{ℕ, suc, ◌+◌, ◌-◌, ◌*◌, ◌≤◌, ◌<◌}
-use mathlib.Core.Path.{◌≡◌, refl, ap}
+use mathlib.Core.Path.{◌≡◌, refl, ap, ◌∙◌}
 use mathlib.Core.Bool.{Bool, true, false}
 use mathlib.Core.List.{List, ◌++◌}
 use native.Mathlib.Omega.{arith}
@@ -8,11 +8,12 @@ use borrow.Author.Tests.{eqb-true, eqb-false}
 use lib.ListN.{length, drop}
 use lib.Dec.{leb}
 use Rattle.std.specs.Prelude.{Result, Ok, Err}
-use Rattle.std.specs.Result.{result_and}
+use Rattle.std.specs.Result.{result_and, ResultUnwrapsOrElse}
 use Rattle.laws.specs.Test.{unless}
 use Rattle.refusal.specs.declared.Refusal.{Refusal}
 use Rattle.refusal.specs.declared.Refusal.TheVariants.{OutputRoom, Malformed}
 use Rattle.refusal.specs.Numbers.{refusal_told, value_told}
+use Rattle.refusal.proofs.NumberLaws.{default_told}
 use Rattle.laws.specs.Num.{zeros_of_num, num_of_zeros}
 use Rattle.laws.specs.First.{first_is}
 use Rattle.graph.specs.declared.Graph.{Graph}
@@ -45,6 +46,10 @@ module _ (s : List ℕ) (refused : refusal_told (read_answer s) ≡ 0 → ⊥) w
   -- and gives the graph of order 0, all zeros
   pub refused_graph : value_told no_graph (read_answer s) ≡ no_graph
   refused_graph = refused_gives no_graph (read_answer s) refused
+
+  -- which is what a caller has by the library's `unwrap_or_default`
+  pub refused_read : (g : Graph) → ResultUnwrapsOrElse (read_answer s) (λ h. h ≡ no_graph) g → g ≡ no_graph
+  refused_read g is_given = default_told no_graph (read_answer s) g is_given ∙ refused_graph
 
 -- what reading finds is the first
 pub first_refused : (f : ℕ → ℕ) (n k : ℕ) → refused_in f n ≡ suc k → FirstRefused f n (suc k)

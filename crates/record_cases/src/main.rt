@@ -40,7 +40,7 @@ fn show_rows(to: &impl Print, edges: u32, unknowns: u32, rest: usize) -> io::Res
 fn read(to: &impl Print, bytes: &[u8]) -> io::Result<()> {
     let answer = reading::read(bytes);
     show_told(to, &answer)?;
-    let g = answer.unwrap_or(Graph::none());
+    let g = answer.unwrap_or_default();
     print!(to; " order {} starts {}", g.order, g.starts)?;
     show_rows(to, g.edges[0], g.unknowns[0], reading::rest(bytes).len())
 }
@@ -48,13 +48,13 @@ fn read(to: &impl Print, bytes: &[u8]) -> io::Result<()> {
 fn field(to: &impl Print, bytes: &[u8], place: usize, width: u32) -> io::Result<()> {
     let answer = fields::field(bytes, place, width);
     show_told(to, &answer)?;
-    println!(to; " value {}", answer.unwrap_or(0))
+    println!(to; " value {}", answer.unwrap_or_default())
 }
 
 fn size(to: &impl Print, order: u32) -> io::Result<()> {
     let answer = record::size(order);
     show_told(to, &answer)?;
-    println!(to; " bytes {}", answer.unwrap_or(0))
+    println!(to; " bytes {}", answer.unwrap_or_default())
 }
 
 // What writing a graph into the first bytes of a buffer of four gives, and the four bytes afterwards.
@@ -65,7 +65,7 @@ fn write(to: &impl Print, graph: Graph, room: usize) -> io::Result<()> {
     let mut out = [0xffu8; 4];
     let answer = writing::write(&graph, &mut out[..room]);
     show_told(to, &answer)?;
-    print!(to; " written {} buffer", answer.unwrap_or(0))?;
+    print!(to; " written {} buffer", answer.unwrap_or_default())?;
     for b in out {
         byte(to, b)?;
     }
@@ -79,7 +79,7 @@ fn show(to: &impl Print, kind: u8, bytes: &[u8], number: u64, width: u32) -> io:
         b's' => size(to, (number % 256) as u32),
         _ => write(
             to,
-            reading::read(bytes).unwrap_or(Graph::none()),
+            reading::read(bytes).unwrap_or_default(),
             number as usize,
         ),
     }

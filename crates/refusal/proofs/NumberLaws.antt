@@ -1,5 +1,6 @@
 -- What the number that an answer tells says of it.
 use Rattle.std.specs.Prelude.{◌≡◌, ◌≤◌, Result, Ok, Err, true, false, is_ok}
+use Rattle.std.specs.Result.{ResultUnwrapsOrElse}
 use Rattle.std.proofs.lemmas.Bool.{false≢true}
 use Rattle.std.proofs.Common.{refl, arith}
 use Rattle.refusal.specs.declared.Refusal.{Refusal}
@@ -41,3 +42,13 @@ given_told (Err refusal) h = absurd (false≢true h)
 pub refused_value : {A : Type 0} (none : A) (r : Result A Refusal) → (refusal_told r ≡ 0 → ⊥) → value_told none r ≡ none
 refused_value none (Ok value) h = absurd (h refl)
 refused_value none (Err refusal) h = refl
+
+-- what stands for it is the default of the value's type: that is what the library's `unwrap_or_default` gives
+pub default_told : {A : Type 0} (none : A) (r : Result A Refusal) (x : A) → ResultUnwrapsOrElse r (λ y. y ≡ none) x → x ≡ value_told none r
+default_told none (Ok value) x is_given = is_given
+default_told none (Err refusal) x is_given = is_given
+
+-- so of a refused answer it gives a default: the graph of order 0, or zeros
+pub refused_default : {A : Type 0} (IsDefault : A → Type 0) (r : Result A Refusal) (x : A) → (refusal_told r ≡ 0 → ⊥) → ResultUnwrapsOrElse r IsDefault x → IsDefault x
+refused_default IsDefault (Ok value) x h is_given = absurd (h refl)
+refused_default IsDefault (Err refusal) x h is_given = is_given

@@ -9,6 +9,7 @@ use lib.Bits.{bit_and, bit_or}
 use lib.Dec.{eqb}
 use lib.Pow.{shr-shr}
 use borrow.Author.Tests.{eqb-true}
+use Rattle.std.proofs.lemmas.Nat.Bits.{ones_shr}
 use Rattle.laws.specs.Bit.{bit}
 use Rattle.laws.specs.Compared.{by_same}
 use Rattle.laws.specs.BitLaws.{bit_small, bit_of_zero, bit_of_power, bit_of_and, bit_of_power_other}
@@ -85,6 +86,13 @@ after_place ones i j h =
     let place : j - 1 ≡ i + (j - 1 - i) = omega arith in
     ap (λ (k : ℕ). bit ones k) place ∙ ap (λ (x : ℕ). x % 2) (sym (shr-shr ones i (j - 1 - i)))
 
+-- all places after i as bits, the first the lowest
+all_after : (n i : ℕ) → n ≤ 32 → i ≤ n → all_marks / 2 ^ (32 - n) / 2 ^ i ≡ 2 ^ (n - i) - 1
+all_after n i b l =
+    let many : 32 - (32 - n) ≡ n = omega arith in
+    let whole : all_marks / 2 ^ (32 - n) ≡ 2 ^ n - 1 = ones_shr 32 (32 - n) (omega arith) ∙ ap (λ (k : ℕ). 2 ^ k - 1) many in
+    rw whole (ones_shr n i l)
+
 -- nothing is unknown there
 module _ (n i ones doubts marks hidden mask : ℕ) (sure : bit_or (doubts / 2 ^ i) (bit_and hidden mask) ≡ 0) where
   known_here : (j : ℕ) → i < j → j ≤ n → bit doubts (j - 1) ≡ 0
@@ -106,14 +114,14 @@ module _ (n i ones doubts marks hidden mask : ℕ) (sure : bit_or (doubts / 2 ^ 
             after_place ones i j l ∙ rw z (bit_of_zero (j - 1 - i)) ∙ sym none;
       }
 
-  pub alike_all : (w : ℕ) → w ≡ 2 ^ (n - i) → bit_and marks mask ≡ mask → eqb (ones / 2 ^ i) (w - 1) ≡ true → Alike n i ones doubts marks hidden mask
-  alike_all w q f e =
+  pub alike_all : n ≤ 32 → i < n → bit_and marks mask ≡ mask → eqb (ones / 2 ^ i) (all_marks / 2 ^ (32 - n) / 2 ^ i) ≡ true → Alike n i ones doubts marks hidden mask
+  alike_all b less f e =
       record {
         known = known_here;
         known_there = known_mask;
         same = λ j k l h s.
             let all : bit marks k ≡ 1 = let m = bit_of_and marks mask k in let c : bit (bit_and marks mask) k ≡ bit mask k = rw f in omega arith in
-            let whole : ones / 2 ^ i ≡ 2 ^ (n - i) - 1 = eqb-true (ones / 2 ^ i) (w - 1) e ∙ rw q in
+            let whole : ones / 2 ^ i ≡ 2 ^ (n - i) - 1 = eqb-true (ones / 2 ^ i) (all_marks / 2 ^ (32 - n) / 2 ^ i) e ∙ all_after n i b (omega arith) in
             after_place ones i j l ∙ rw whole (ones_bit (n - i) (j - 1 - i) (omega arith)) ∙ sym all;
       }
 

@@ -28,7 +28,7 @@ fn is_alike(n: u32, i: u32, ones: u32, doubts: u32, marks: u32, hidden: u32, lat
         return marked == 0;
     }
     if marked == later {
-        return after == power(n - i) - 1;
+        return after == (0xFFFF_FFFF >> (32 - n)) >> i;
     }
     false
 }

@@ -111,7 +111,6 @@ fn tell_smaller(
 }
 
 // The answer where the path's first places are the first won beginning: its certificate, and the clause written.
-#[inline(never)]
 fn certify(
     mode: u32,
     formed: FormedGraph,

@@ -20,6 +20,7 @@ use turns::walked::{Path, is_own, turn_by};
 
 // How an entry counts at the pair here, where the pair of s and t meets it too: as the value, unless that pair comes first;
 // then as the opposite, unless the entry is the value and stays, as that pair is reached.
+#[inline(always)]
 fn count_after(
     value: u32,
     entry: u32,

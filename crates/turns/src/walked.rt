@@ -27,8 +27,7 @@ pub fn row_of(rows: &[u32; 32], i: u32) -> u32
     requires { (1 ≤ i) × (i ≤ 32) }
     ensures { result ≡ row rows.now i }
 {
-    let at = (i - 1) as usize;
-    rows[at]
+    rows[i as usize - 1]
 }
 
 // Is {u, v} the pair (i, j)?

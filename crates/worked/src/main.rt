@@ -75,7 +75,7 @@ fn malformed(to: &impl Print, mut graph: Graph, mode: u32) -> io::Result<()> {
 // The record of one or two bytes that writing gives.
 fn write(to: &impl Print, graph: Graph) -> io::Result<()> {
     let mut out = [0u8; 129];
-    let written = writing::write(&graph, &mut out).unwrap_or(0);
+    let written = writing::write(&graph, &mut out).unwrap_or_default();
     text(to, b" record")?;
     byte(to, out[0])?;
     if 1 < written {
@@ -168,7 +168,7 @@ fn case(to: &impl Print, row: &[u8]) -> io::Result<()> {
         b'f' => field(to, given, digit_at(row, 27), digit_at(row, 28)),
         b'c' => compose(to, digit_at(row, 27), arrangement(row)),
         b'i' => invert(to, digit_at(row, 27), arrangement(row)),
-        _ => case_of(to, row, kind, reading::read(given).unwrap_or(Graph::none())),
+        _ => case_of(to, row, kind, reading::read(given).unwrap_or_default()),
     }
 }
 

@@ -1,5 +1,4 @@
 use borrow.Author.Rules.{rules}
-use Rattle.turns.proofs.Ones.{power_some}
 use Rattle.row_walks.proofs.AlikeRows.{alike_none, alike_not, alike_all}
 use Rattle.row_walks.proofs.row.is_alike.Goals as goal
 
@@ -8,9 +7,6 @@ returns-then-doubts-i-ne0 c = search (alike_not, rules)
 
 pub returns-then-after-eq0 : goal.returns-then-after-eq0
 returns-then-after-eq0 c = search (alike_none, rules)
-
-pub overflow_sub-result : goal.overflow_sub-result
-overflow_sub-result c = search (power_some, rules)
 
 pub returns-then-marked-later : goal.returns-then-marked-later
 returns-then-marked-later c = search (alike_all, rules)
