@@ -2,7 +2,7 @@
 use Prim.Native.Nat.{ℕ, ◌+◌, ◌≤◌, ◌<◌, ◌^◌}
 use native.Mathlib.Omega.{arith}
 use native.Mathlib.Decide.{ℕ_discrete}
-use mathlib.Core.Path.{◌≡◌, sym, ◌∙◌}
+use mathlib.Core.Path.{◌≡◌, refl, sym, ◌∙◌}
 use mathlib.Core.Logic.{◌≢◌, ◌↔◌}
 use borrow.Author.Tests.{le-leb, eq-eqb, ne_eqb}
 use lib.Dec.{eqb, leb}
@@ -13,8 +13,9 @@ use Rattle.refusal.specs.Numbers.{number_of, place_of}
 use Rattle.refusal.proofs.NumberLaws.{number_range}
 use Rattle.judging.specs.declared.Judged.{Judged}
 use Rattle.judging.specs.Answer.{told}
-use Rattle.packing.specs.Packing.{low_in, row_in, column_in, literals_in, code_in, place_told, refusal, code_told, low_told, packed, counted}
+use Rattle.packing.specs.Packing.{low_in, row_in, column_in, literals_in, code_in, fields, place_told, refusal, code_told, low_told, packed, counted_by, counted}
 use Rattle.packing.proofs.Fields.{Fitting, low_is, row_is, column_is, literals_are, code_is, word_fits}
+use Rattle.packing.proofs.Counting.{counted_bytes, counted_refusal}
 use Rattle.packing.proofs.Bounds.{place_fits_lem, Bounded, judged_fits}
 
 -- a place of 32 bits is told as it is
@@ -86,10 +87,8 @@ module _ (budget : ℕ) (a : Judged) (b : Bounded budget a) (h : budget < 2 ^ 32
 
 -- ---- numbers of bytes
 
--- the bytes and code 0, where nothing is refused
-pub counted_given : (count : ℕ) → count ≤ 129 → (low_in (counted (Ok count)) ≡ count) × (code_in (counted (Ok count)) ≡ 0)
-unfolding counted
-counted_given count h =
+bytes_apart : (count : ℕ) → count ≤ 129 → (low_in (fields count 0 0 0 0) ≡ count) × (code_in (fields count 0 0 0 0) ≡ 0)
+bytes_apart count h =
     let f : Fitting count 0 0 0 0 = omega arith in
     (low_is count 0 0 0 0 f, code_is count 0 0 0 0 f)
 
@@ -100,7 +99,19 @@ refusal_apart number place h small =
     let f : Fitting (place_told place) 0 0 0 (128 + number) = omega (arith, place_fits_lem place) in
     (low_is (place_told place) 0 0 0 (128 + number) f ∙ place_itself place small, code_is (place_told place) 0 0 0 (128 + number) f)
 
--- so of one that is told in place of a number of bytes
+-- the bytes and code 0, where nothing is refused
+pub counted_by_given : (number place count : ℕ) → number ≡ 0 → count ≤ 129 → (low_in (counted_by number place count) ≡ count) × (code_in (counted_by number place count) ≡ 0)
+counted_by_given number place count e h = rw (sym (counted_bytes number place count (fields count 0 0 0 0) e refl)) (bytes_apart count h)
+
+-- the place and 128 more than the number of a refusal
+pub counted_by_refused : (number place count : ℕ) → number ≢ 0 → number < 128 → place ≤ 4294967295 → (low_in (counted_by number place count) ≡ place) × (code_in (counted_by number place count) ≡ 128 + number)
+counted_by_refused number place count ne h small = rw (sym (counted_refusal number place count (refusal number place) ne refl)) (refusal_apart number place h small)
+
+-- the same of an answer
+pub counted_given : (count : ℕ) → count ≤ 129 → (low_in (counted (Ok count)) ≡ count) × (code_in (counted (Ok count)) ≡ 0)
+unfolding counted
+counted_given count h = bytes_apart count h
+
 pub counted_refused : (e : Refusal) → place_of e ≤ 496 → (low_in (counted (Err e)) ≡ place_of e) × (code_in (counted (Err e)) ≡ 128 + number_of e)
 unfolding counted
 counted_refused e small = refusal_apart (number_of e) (place_of e) (omega (arith, number_range e)) (omega arith)

@@ -1,3 +1,4 @@
+mod Counting
 pub mod Fields
 pub mod Bounds
 pub mod Apart

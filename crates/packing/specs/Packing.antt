@@ -55,7 +55,11 @@ low_told t = pick (eqb t.kind 3) (place_told t.place) t.steps
 unfoldable pub packed : Judged → ℕ
 packed a = let t = told a.verdict in fields (low_told t) t.row t.column a.literals (code_told t)
 
--- a number of bytes, or the refusal
+-- a number of bytes, or the refusal where its number is not 0
+unfoldable pub counted_by : ℕ → ℕ → ℕ → ℕ
+counted_by number place count = pick (eqb number 0) (fields count 0 0 0 0) (refusal number place)
+
+-- of an answer, a number of bytes, or the refusal
 unfoldable pub counted : Result ℕ Refusal → ℕ
 counted (Ok count) = fields count 0 0 0 0
 counted (Err e) = refusal (number_of e) (place_of e)

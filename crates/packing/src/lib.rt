@@ -5,7 +5,7 @@
 #![tactic(auto)]
 
 ghost use Rattle.std.specs.Prelude.{◌≡◌, ◌<◌, ◌≤◌, IfOk};
-ghost use Rattle.packing.specs.Packing.{fields, place_told, refusal, counted, packed};
+ghost use Rattle.packing.specs.Packing.{fields, place_told, refusal, counted_by, counted, packed};
 ghost use Rattle.packing.specs.Telling.{Judgement, arranged_after};
 
 use judging::{Judged, Verdict};
@@ -38,14 +38,25 @@ pub fn refused(number: u32, place: usize) -> u64
     joined(place_told(place), 0, 0, 0, 128 + number)
 }
 
-// A number of bytes, or the refusal.
+// A number of bytes, or the refusal where its number is not 0.
+pub fn counted_by(number: u32, place: usize, count: usize) -> u64
+    requires { (number < 128) × (count ≤ 129) }
+    ensures { result ≡ counted_by number place count }
+{
+    if number == 0 {
+        return joined(count as u32, 0, 0, 0, 0);
+    }
+    refused(number, place)
+}
+
+// The same of an answer.
 pub fn counted(answer: Result<usize, Refusal>) -> u64
     requires { IfOk answer (λ count. count ≤ 129) }
     ensures { result ≡ counted answer }
 {
     match answer {
-        Ok(count) => joined(count as u32, 0, 0, 0, 0),
-        Err(refusal) => refused(refusal.number(), refusal.place()),
+        Ok(count) => counted_by(0, 0, count),
+        Err(refusal) => counted_by(refusal.number(), refusal.place(), 0),
     }
 }
 
